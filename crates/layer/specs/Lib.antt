@@ -1,0 +1,4 @@
+pub mod Kinds
+pub mod Limits
+pub mod Defaults
+pub mod Answers

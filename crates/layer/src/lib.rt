@@ -1,0 +1,289 @@
+// The layer record: what a layer sheet says of one layer, with its limits and defaults, and the answer record of a call.
+ghost use Prim.Native.Nat.{ℕ};
+ghost use mathlib.Core.Path.{_≡_};
+ghost use Rattle.layer.specs.Kinds.{isPool, isTransposed, isConvolution, sameOp, isExplicit, isSame, isFloor};
+ghost use Rattle.layer.specs.Limits.{within, imagesOk, channelsOk, sizeOk, kernelOk, stepOk, padOk, outputPaddingOk, tapsOk, elementsOk, axisOk};
+ghost use Rattle.layer.specs.Defaults.{defaultAxis, defaultLayer};
+ghost use Rattle.layer.specs.Answers.{numbered, badElement};
+
+pub enum Op {
+    Convolution,
+    Transposed,
+    MaxPool,
+}
+
+pub enum AutoPad {
+    Explicit,
+    SameUpper,
+    SameLower,
+    Valid,
+}
+
+pub enum Rounding {
+    Floor,
+    Ceil,
+}
+
+// What a layer says of one spatial axis.
+pub struct Axis {
+    pub input: u32,
+    pub kernel: u32,
+    pub stride: u32,
+    pub dilation: u32,
+    pub pad_begin: u32,
+    pub pad_end: u32,
+    pub output_padding: u32,
+}
+
+// A layer. The input is [n, c, y, x], the kernel [g, o, i, ky, kx] or, transposed, [g, i, o, ky, kx]. With one axis y is not used.
+pub struct Layer {
+    pub op: Op,
+    pub axes: u32,
+    pub n: u32,
+    pub c: u32,
+    pub g: u32,
+    pub o: u32,
+    pub i: u32,
+    pub y: Axis,
+    pub x: Axis,
+    pub auto_pad: AutoPad,
+    pub rounding: Rounding,
+    pub axis: i32,
+}
+
+// What an operator comes back with. What a number does not use is 0.
+pub struct Answer {
+    pub number: u32,
+    pub tensor: u32,
+    pub place: usize,
+}
+
+impl Axis {
+    pub const SIZE: u32 = 1;
+
+    pub const STRIDE: u32 = 1;
+
+    pub const DILATION: u32 = 1;
+
+    pub const PAD: u32 = 0;
+
+    pub const OUTPUT_PADDING: u32 = 0;
+
+    // Every field at its default: an axis that is not used.
+    pub fn new() -> Self
+        ensures { λ r. ⌜ r ≡ defaultAxis ⌝ }
+    {
+        Axis {
+            input: Axis::SIZE,
+            kernel: Axis::SIZE,
+            stride: Axis::STRIDE,
+            dilation: Axis::DILATION,
+            pad_begin: Axis::PAD,
+            pad_end: Axis::PAD,
+            output_padding: Axis::OUTPUT_PADDING,
+        }
+    }
+}
+
+impl Layer {
+    pub const SIZE: u32 = 1;
+
+    pub const AUTO_PAD: AutoPad = AutoPad::Explicit;
+
+    pub const ROUNDING: Rounding = Rounding::Floor;
+
+    pub const AXIS: i32 = 0;
+
+    // Every field but the operator and the number of axes at its default.
+    pub fn new(op: Op, axes: u32) -> Self
+        ensures { λ r. ⌜ r ≡ defaultLayer op axes ⌝ }
+    {
+        Layer {
+            op: op,
+            axes: axes,
+            n: Layer::SIZE,
+            c: Layer::SIZE,
+            g: Layer::SIZE,
+            o: Layer::SIZE,
+            i: Layer::SIZE,
+            y: Axis::new(),
+            x: Axis::new(),
+            auto_pad: Layer::AUTO_PAD,
+            rounding: Layer::ROUNDING,
+            axis: Layer::AXIS,
+        }
+    }
+}
+
+impl Answer {
+    // An answer that tells no tensor and no place.
+    pub fn numbered(number: u32) -> Self
+        ensures { λ r. ⌜ r ≡ numbered number ⌝ }
+    {
+        Answer {
+            number,
+            tensor: 0,
+            place: 0,
+        }
+    }
+
+    // Number 9: the tensor (0 input, 1 kernel) and its first bad element.
+    pub fn bad_element(tensor: u32, place: usize) -> Self
+        ensures { λ r. ⌜ r ≡ badElement tensor place ⌝ }
+    {
+        Answer {
+            number: 9,
+            tensor,
+            place,
+        }
+    }
+}
+
+// ---- kinds
+
+pub fn is_pool(op: Op) -> bool
+    ensures { λ r. ⌜ r ≡ isPool op ⌝ }
+{
+    match op {
+        Op::Convolution => false,
+        Op::Transposed => false,
+        Op::MaxPool => true,
+    }
+}
+
+pub fn is_transposed(op: Op) -> bool
+    ensures { λ r. ⌜ r ≡ isTransposed op ⌝ }
+{
+    match op {
+        Op::Convolution => false,
+        Op::Transposed => true,
+        Op::MaxPool => false,
+    }
+}
+
+pub fn is_convolution(op: Op) -> bool
+    ensures { λ r. ⌜ r ≡ isConvolution op ⌝ }
+{
+    match op {
+        Op::Convolution => true,
+        Op::Transposed => false,
+        Op::MaxPool => false,
+    }
+}
+
+// Whether two operators are of one kind.
+pub fn same_op(a: Op, b: Op) -> bool
+    ensures { λ r. ⌜ r ≡ sameOp a b ⌝ }
+{
+    match a {
+        Op::Convolution => is_convolution(b),
+        Op::Transposed => is_transposed(b),
+        Op::MaxPool => is_pool(b),
+    }
+}
+
+pub fn is_explicit(m: AutoPad) -> bool
+    ensures { λ r. ⌜ r ≡ isExplicit m ⌝ }
+{
+    match m {
+        AutoPad::Explicit => true,
+        AutoPad::SameUpper => false,
+        AutoPad::SameLower => false,
+        AutoPad::Valid => false,
+    }
+}
+
+// The same modes: same_upper and same_lower.
+pub fn is_same(m: AutoPad) -> bool
+    ensures { λ r. ⌜ r ≡ isSame m ⌝ }
+{
+    match m {
+        AutoPad::Explicit => false,
+        AutoPad::SameUpper => true,
+        AutoPad::SameLower => true,
+        AutoPad::Valid => false,
+    }
+}
+
+pub fn is_floor(r: Rounding) -> bool
+    ensures { λ b. ⌜ b ≡ isFloor r ⌝ }
+{
+    match r {
+        Rounding::Floor => true,
+        Rounding::Ceil => false,
+    }
+}
+
+// ---- limits
+
+fn inside(lo: u32, hi: u32, v: u32) -> bool
+    ensures { λ r. ⌜ r ≡ within lo hi v ⌝ }
+{
+    (lo <= v) & (v <= hi)
+}
+
+pub fn images_ok(n: u32) -> bool
+    ensures { λ r. ⌜ r ≡ imagesOk n ⌝ }
+{
+    inside(1, 16, n)
+}
+
+pub fn channels_ok(c: u32) -> bool
+    ensures { λ r. ⌜ r ≡ channelsOk c ⌝ }
+{
+    inside(1, 1024, c)
+}
+
+pub fn size_ok(y: u32) -> bool
+    ensures { λ r. ⌜ r ≡ sizeOk y ⌝ }
+{
+    inside(1, 4096, y)
+}
+
+pub fn kernel_ok(k: u32) -> bool
+    ensures { λ r. ⌜ r ≡ kernelOk k ⌝ }
+{
+    inside(1, 64, k)
+}
+
+// Strides and dilations.
+pub fn step_ok(s: u32) -> bool
+    ensures { λ r. ⌜ r ≡ stepOk s ⌝ }
+{
+    inside(1, 16, s)
+}
+
+pub fn pad_ok(p: u32) -> bool
+    ensures { λ r. ⌜ r ≡ padOk p ⌝ }
+{
+    p <= 1024
+}
+
+pub fn output_padding_ok(p: u32) -> bool
+    ensures { λ r. ⌜ r ≡ outputPaddingOk p ⌝ }
+{
+    p <= 15
+}
+
+pub fn taps_ok(k: usize) -> bool
+    ensures { λ r. ⌜ r ≡ tapsOk k ⌝ }
+{
+    k <= 4096
+}
+
+pub fn elements_ok(n: usize) -> bool
+    ensures { λ r. ⌜ r ≡ elementsOk n ⌝ }
+{
+    n <= 16777216
+}
+
+// Pooling's axis: from -R to R - 1, R being 3 with one spatial axis and 4 with two.
+pub fn axis_ok(axes: u32, axis: i32) -> bool
+    ensures { λ r. ⌜ r ≡ axisOk axes axis ⌝ }
+{
+    if axes == 1 {
+        (-3 <= axis) & (axis < 3)
+    } else {
+        (-4 <= axis) & (axis < 4)
+    }
+}
