@@ -1,7 +1,9 @@
 -- "Defaults, held with the type of the layer record: strides 1, dilations 1, pads 0, output padding 0, auto_pad explicit, rounding floor, axis 0,
 -- and 1 for any size that is not used."
 use Prim.Native.Nat.{ℕ}
-use lib.IntN.{pos}
+use mathlib.Core.Bool.{Bool, _&&_}
+use lib.IntN.{ℤ, pos}
+use lib.Signed.{leZ}
 use Rattle.layer.specs.declared.Op.{Op}
 use Rattle.layer.specs.declared.AutoPad.the-variants.{Explicit}
 use Rattle.layer.specs.declared.Rounding.the-variants.{Floor}
@@ -27,3 +29,7 @@ defaultLayer op axes =
       rounding = Floor;
       axis = pos 0;
     }
+
+-- "axis 0"
+abbrev pub isDefaultAxis : ℤ → Bool
+isDefaultAxis z = leZ (pos 0) z && leZ z (pos 0)

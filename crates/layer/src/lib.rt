@@ -3,7 +3,7 @@ ghost use Prim.Native.Nat.{ℕ};
 ghost use mathlib.Core.Path.{_≡_};
 ghost use Rattle.layer.specs.Kinds.{isPool, isTransposed, isConvolution, sameOp, isExplicit, isSame, isFloor};
 ghost use Rattle.layer.specs.Limits.{within, imagesOk, channelsOk, sizeOk, kernelOk, stepOk, padOk, outputPaddingOk, tapsOk, elementsOk, axisOk};
-ghost use Rattle.layer.specs.Defaults.{defaultAxis, defaultLayer};
+ghost use Rattle.layer.specs.Defaults.{defaultAxis, defaultLayer, isDefaultAxis};
 ghost use Rattle.layer.specs.Answers.{numbered, badElement};
 
 pub enum Op {
@@ -286,4 +286,11 @@ pub fn axis_ok(axes: u32, axis: i32) -> bool
     } else {
         (-4 <= axis) & (axis < 4)
     }
+}
+
+// Whether pooling's axis is at its default, as it is where no pooling uses it.
+pub fn is_default_axis(axis: i32) -> bool
+    ensures { λ r. ⌜ r ≡ isDefaultAxis axis ⌝ }
+{
+    (Layer::AXIS <= axis) & (axis <= Layer::AXIS)
 }

@@ -1,0 +1,4 @@
+pub mod Division
+pub mod Any
+pub mod Inside
+pub mod Limits

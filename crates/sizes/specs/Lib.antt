@@ -1,0 +1,4 @@
+pub mod Size
+pub mod Taps
+pub mod Sizing
+pub mod Bounds

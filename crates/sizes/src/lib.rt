@@ -1,0 +1,321 @@
+// Sizes along one axis, and the taps of one axis that lie inside the input.
+use layer::AutoPad;
+use layer::Axis;
+use layer::Op;
+use layer::Rounding;
+use layer::is_explicit;
+use layer::is_same;
+use layer::is_transposed;
+use layer::kernel_ok;
+use layer::output_padding_ok;
+use layer::pad_ok;
+use layer::size_ok;
+use layer::step_ok;
+ghost use Prim.Native.Nat.{ℕ, _^_, _+_, _-_, _*_, _/_, _≤_, _<_, min};
+ghost use mathlib.Core.Path.{_≡_};
+ghost use mathlib.Core.Bool.{true};
+ghost use Rattle.sizes.specs.Size.{ceilDiv, dilatedKernel, padded, explicitOut, validOut, sameOut, sameTotal, padsOf, windowOut, transposedOut, outOf, windowFits, axisFits};
+ghost use Rattle.sizes.specs.Taps.{tapPosition, inside, spanWith, someMissed, Exactly, stepsTo};
+ghost use Rattle.sizes.specs.Sizing.{axisDimensionsOk, padsOk, axisAttributesOk, modeOk, spanOf, sizing};
+ghost use Rattle.sizes.specs.Bounds.{AxisLimits};
+
+// One axis of an accepted layer: its sizes and steps, the padding at its beginning, and the output size.
+pub struct Span {
+    pub input: usize,
+    pub kernel: usize,
+    pub stride: usize,
+    pub dilation: usize,
+    pub begin: usize,
+    pub out: usize,
+}
+
+// What the size rule makes of an axis: its span, or the number that refuses it.
+pub enum Sizing {
+    Sized(Span),
+    Unfit(u32),
+}
+
+// The taps of one output position that lie inside the input: `count` of them, from `first` on.
+pub struct Taps {
+    pub first: usize,
+    pub count: usize,
+}
+
+// The padding on both sides of an axis.
+pub struct Pads {
+    pub begin: usize,
+    pub end: usize,
+}
+
+// ---- whole numbers
+
+// a - b, or 0 where that is less
+fn minus(a: usize, b: usize) -> usize
+    ensures { λ r. ⌜ r ≡ a - b ⌝ }
+{
+    if b <= a { a - b } else { 0 }
+}
+
+fn least(a: usize, b: usize) -> usize
+    ensures { λ r. ⌜ r ≡ min a b ⌝ }
+{
+    if a <= b { a } else { b }
+}
+
+fn ceil_div(a: usize, b: usize) -> usize
+    requires { ⌜ (1 ≤ b) × (a + b < 2 ^ 64) ⌝ }
+    ensures { λ r. ⌜ r ≡ ceilDiv a b ⌝ }
+{
+    (a + (b - 1)) / b
+}
+
+// ---- the size rule, for any axis within its limits
+
+fn dilated_kernel(a: Axis) -> usize
+    requires { ⌜ AxisLimits a ⌝ }
+    ensures { λ r. ⌜ r ≡ dilatedKernel a ⌝ }
+{
+    (a.kernel as usize - 1) * a.dilation as usize + 1
+}
+
+fn same_out(a: Axis) -> usize
+    requires { ⌜ AxisLimits a ⌝ }
+    ensures { λ r. ⌜ r ≡ sameOut a ⌝ }
+{
+    ceil_div(a.input as usize, a.stride as usize)
+}
+
+fn same_total(a: Axis) -> usize
+    requires { ⌜ AxisLimits a ⌝ }
+    ensures { λ r. ⌜ r ≡ sameTotal a ⌝ }
+{
+    let out = same_out(a);
+    minus(
+        (out - 1) * a.stride as usize + dilated_kernel(a),
+        a.input as usize,
+    )
+}
+
+// The padding on both sides: as the layer has it, in halves of the total, or none.
+fn pads_of(m: AutoPad, a: Axis) -> Pads
+    requires { ⌜ AxisLimits a ⌝ }
+    ensures { λ r. ⌜ r ≡ padsOf m a ⌝ }
+{
+    match m {
+        AutoPad::Explicit => Pads {
+            begin: a.pad_begin as usize,
+            end: a.pad_end as usize,
+        },
+        AutoPad::SameUpper => {
+            let total = same_total(a);
+            Pads {
+                begin: total / 2,
+                end: total - total / 2,
+            }
+        }
+        AutoPad::SameLower => {
+            let total = same_total(a);
+            Pads {
+                begin: total - total / 2,
+                end: total / 2,
+            }
+        }
+        AutoPad::Valid => Pads { begin: 0, end: 0 },
+    }
+}
+
+fn padded_size(a: Axis) -> usize
+    ensures { λ r. ⌜ r ≡ padded a ⌝ }
+{
+    a.input as usize + a.pad_begin as usize + a.pad_end as usize
+}
+
+fn window_fits(m: AutoPad, a: Axis) -> bool
+    requires { ⌜ AxisLimits a ⌝ }
+    ensures { λ r. ⌜ r ≡ windowFits m a ⌝ }
+{
+    match m {
+        AutoPad::Explicit => dilated_kernel(a) <= padded_size(a),
+        AutoPad::SameUpper => true,
+        AutoPad::SameLower => true,
+        AutoPad::Valid => dilated_kernel(a) <= a.input as usize,
+    }
+}
+
+fn transposed_out(m: AutoPad, a: Axis) -> usize
+    requires { ⌜ AxisLimits a ⌝ }
+    ensures { λ r. ⌜ r ≡ transposedOut m a ⌝ }
+{
+    let p = pads_of(m, a);
+    let k = dilated_kernel(a);
+    let begin = p.begin;
+    let end = p.end;
+    minus(
+        (a.input as usize - 1) * a.stride as usize + k + a.output_padding as usize,
+        begin + end,
+    )
+}
+
+fn axis_fits(op: Op, m: AutoPad, a: Axis) -> bool
+    requires { ⌜ AxisLimits a ⌝ }
+    ensures { λ r. ⌜ r ≡ axisFits op m a ⌝ }
+{
+    match op {
+        Op::Convolution => window_fits(m, a),
+        Op::Transposed => 1 <= transposed_out(m, a),
+        Op::MaxPool => window_fits(m, a),
+    }
+}
+
+fn explicit_out(rounding: Rounding, a: Axis) -> usize
+    requires { ⌜ AxisLimits a × (dilatedKernel a ≤ padded a) ⌝ }
+    ensures { λ r. ⌜ r ≡ explicitOut rounding a ⌝ }
+{
+    let room = padded_size(a) - dilated_kernel(a);
+    let stride = a.stride as usize;
+    match rounding {
+        Rounding::Floor => room / stride + 1,
+        Rounding::Ceil => ceil_div(room, stride) + 1,
+    }
+}
+
+fn valid_out(a: Axis) -> usize
+    requires { ⌜ AxisLimits a × (dilatedKernel a ≤ a .input) ⌝ }
+    ensures { λ r. ⌜ r ≡ validOut a ⌝ }
+{
+    ceil_div(a.input as usize - dilated_kernel(a) + 1, a.stride as usize)
+}
+
+// The output size of convolution and pooling.
+fn window_out(m: AutoPad, rounding: Rounding, a: Axis) -> usize
+    requires { ⌜ AxisLimits a × (windowFits m a ≡ true) ⌝ }
+    ensures { λ r. ⌜ r ≡ windowOut m rounding a ⌝ }
+{
+    match m {
+        AutoPad::Explicit => explicit_out(rounding, a),
+        AutoPad::SameUpper => same_out(a),
+        AutoPad::SameLower => same_out(a),
+        AutoPad::Valid => valid_out(a),
+    }
+}
+
+fn out_of(op: Op, m: AutoPad, rounding: Rounding, a: Axis) -> usize
+    requires { ⌜ AxisLimits a × (axisFits op m a ≡ true) ⌝ }
+    ensures { λ r. ⌜ r ≡ outOf op m rounding a ⌝ }
+{
+    match op {
+        Op::Convolution => window_out(m, Rounding::Floor, a),
+        Op::Transposed => transposed_out(m, a),
+        Op::MaxPool => window_out(m, rounding, a),
+    }
+}
+
+fn span_of(op: Op, m: AutoPad, rounding: Rounding, a: Axis) -> Span
+    requires { ⌜ AxisLimits a × (axisFits op m a ≡ true) ⌝ }
+    ensures { λ r. ⌜ r ≡ spanOf op m rounding a ⌝ }
+{
+    let p = pads_of(m, a);
+    let out = out_of(op, m, rounding, a);
+    Span {
+        input: a.input as usize,
+        kernel: a.kernel as usize,
+        stride: a.stride as usize,
+        dilation: a.dilation as usize,
+        begin: p.begin,
+        out,
+    }
+}
+
+// ---- the size rule, for any axis
+
+// Number 1 on one axis.
+pub fn axis_dimensions_ok(a: Axis) -> bool
+    ensures { λ r. ⌜ r ≡ axisDimensionsOk a ⌝ }
+{
+    size_ok(a.input) & kernel_ok(a.kernel)
+}
+
+// Number 2 on one axis.
+pub fn axis_attributes_ok(op: Op, m: AutoPad, a: Axis) -> bool
+    ensures { λ r. ⌜ r ≡ axisAttributesOk op m a ⌝ }
+{
+    step_ok(a.stride)
+        & step_ok(a.dilation)
+        & pads_ok(m, a.pad_begin, a.pad_end)
+        & output_padding_ok(a.output_padding)
+        & (is_transposed(op) | (a.output_padding == Axis::OUTPUT_PADDING))
+}
+
+// Pads are not checked where they are ignored.
+fn pads_ok(m: AutoPad, begin: u32, end: u32) -> bool
+    ensures { λ r. ⌜ r ≡ padsOk m begin end ⌝ }
+{
+    !is_explicit(m) | (pad_ok(begin) & pad_ok(end))
+}
+
+// Number 2: a transposed layer has no same mode.
+pub fn mode_ok(op: Op, m: AutoPad) -> bool
+    ensures { λ r. ⌜ r ≡ modeOk op m ⌝ }
+{
+    !(is_transposed(op) & is_same(m))
+}
+
+// The size rule: the lowest of the numbers 1, 2 and 5 that holds on this axis, or its span.
+pub fn size_axis(op: Op, auto_pad: AutoPad, rounding: Rounding, axis: Axis) -> Sizing
+    ensures { λ r. ⌜ r ≡ sizing op «auto_pad» rounding axis ⌝ }
+{
+    if !axis_dimensions_ok(axis) {
+        return Sizing::Unfit(1);
+    }
+    if !(mode_ok(op, auto_pad) & axis_attributes_ok(op, auto_pad, axis)) {
+        return Sizing::Unfit(2);
+    }
+    if !axis_fits(op, auto_pad, axis) {
+        return Sizing::Unfit(5);
+    }
+    Sizing::Sized(span_of(op, auto_pad, rounding, axis))
+}
+
+// ---- taps inside the input
+
+// The fewest steps that cover a distance; more than any kernel has taps where no number of steps does.
+fn steps_to(distance: usize, step: usize) -> usize
+    requires { ⌜ (distance < 2 ^ 33) × (step < 2 ^ 32) ⌝ }
+    ensures { λ r. ⌜ r ≡ stepsTo distance step ⌝ }
+{
+    if step == 0 {
+        if distance == 0 { 0 } else { 4294967295 }
+    } else {
+        ceil_div(distance, step)
+    }
+}
+
+// The taps of output position p that lie inside the input, for any numbers.
+pub fn taps_inside(a: Axis, begin: u32, p: u32) -> Taps
+    ensures { λ r. ⌜ Exactly (a .kernel) (λ k. inside begin (a .input) (tapPosition (a .stride) (a .dilation) p k)) (r .first) (r .count) ⌝ }
+{
+    let start = p as usize * a.stride as usize;
+    let begin = begin as usize;
+    let dilation = a.dilation as usize;
+    let first = steps_to(minus(begin, start), dilation);
+    let until = steps_to(minus(a.input as usize + begin, start), dilation);
+    let end = least(a.kernel as usize, until);
+    let count = minus(end, first);
+    Taps { first, count }
+}
+
+// Whether some output position of an axis has no tap inside the input, for any numbers.
+pub fn some_missed(a: Axis, begin: u32, out: u32) -> bool
+    ensures { λ r. ⌜ r ≡ someMissed (spanWith a begin out) ⌝ }
+{
+    let mut p: u32 = 0;
+    while p < out {
+        let t = taps_inside(a, begin, p);
+        let count = t.count;
+        if count == 0 {
+            return true;
+        }
+        p += 1;
+    }
+    false
+}
