@@ -2,7 +2,7 @@
 use Prim.Native.Nat.{ℕ, _+_, _-_, _*_, _≤_}
 use native.Mathlib.Nat.{div-le-self}
 use native.Mathlib.Omega.{arith}
-use mathlib.Core.Path.{_≡_, refl}
+use mathlib.Core.Path.{_≡_, refl, sym, _∙_}
 use mathlib.Core.Bool.{Bool, true, false, cond, not, _&&_, _||_}
 use lib.Dec.{leb, eqb}
 use borrow.Author.Tests.{leb-true}
@@ -16,6 +16,7 @@ use Rattle.layer.specs.declared.Axis.{Axis}
 use Rattle.layer.specs.Kinds.{isTransposed, isExplicit}
 use Rattle.layer.specs.Limits.{stepOk, padOk, outputPaddingOk}
 use Rattle.layer.proofs.Tests.{and-both, and-of, or-other, within-both}
+use Rattle.sizes.specs.declared.Span.{Span}
 use Rattle.sizes.specs.declared.Sizing.{Sizing}
 use Rattle.sizes.specs.declared.Sizing.the-variants.{Sized, Unfit}
 use Rattle.sizes.specs.Size.{dilatedKernel, padded, sameOut, validOut, beginOf, windowOut, transposedOut, outOf, axisFits}
@@ -93,6 +94,14 @@ window-pos SameUpper r a h = ceil-pos (a .input) (h .stride-1) (h .input-1)
 window-pos SameLower r a h = ceil-pos (a .input) (h .stride-1) (h .input-1)
 window-pos Valid r a h = ceil-pos (a .input - dilatedKernel a + 1) (h .stride-1) (omega arith)
 
+no-span : (b : Bool) (s : Span) (n : ℕ) → cond (not b) (Unfit 5) (Sized s) ≡ Unfit n → b ≡ false
+no-span true s n e = let z : _≡_ {A = ℕ} 0 1 = cc in absurd (omega arith)
+no-span false s n e = refl
+
+one-span : (b : Bool) (s t : Span) → cond (not b) (Unfit 5) (Sized s) ≡ Sized t → (b ≡ true) × (t ≡ s)
+one-span true s t e = (refl, cc)
+one-span false s t e = let z : _≡_ {A = ℕ} 0 1 = cc in absurd (omega arith)
+
 -- the span of an axis that passes numbers 1, 2 and 5
 pub span-limits : (op : Op) (m : AutoPad) (r : Rounding) (a : Axis) → axisDimensionsOk a ≡ true → axisAttributesOk op m a ≡ true → axisFits op m a ≡ true → SpanLimits (spanOf op m r a)
 span-limits op m r a d t f =
@@ -121,7 +130,16 @@ span-limits op m r a d t f =
     le Transposed e h = transposed-le op m a h e
     le MaxPool e h = window-le op m r a h e
 
--- past numbers 1 and 2 the size rule asks number 5 alone
-pub sizing-is : (op : Op) (m : AutoPad) (r : Rounding) (a : Axis) → axisDimensionsOk a ≡ true → modeOk op m ≡ true → axisAttributesOk op m a ≡ true → sizing op m r a ≡ cond (not (axisFits op m a)) (Unfit 5) (Sized (spanOf op m r a))
-unfolding sizing
-sizing-is op m r a d o t = simp (d, and-of (modeOk op m) (axisAttributesOk op m a) o t)
+-- ---- past numbers 1 and 2 the size rule asks number 5 alone
+module _ (op : Op) (m : AutoPad) (r : Rounding) (a : Axis) (d : axisDimensionsOk a ≡ true) (o : modeOk op m ≡ true) (t : axisAttributesOk op m a ≡ true) where
+  sizing-is : sizing op m r a ≡ cond (not (axisFits op m a)) (Unfit 5) (Sized (spanOf op m r a))
+  unfolding sizing
+  sizing-is = simp (d, and-of (modeOk op m) (axisAttributesOk op m a) o t)
+
+  -- no span: number 5 holds
+  pub unfit : (n : ℕ) → sizing op m r a ≡ Unfit n → axisFits op m a ≡ false
+  unfit n e = no-span (axisFits op m a) (spanOf op m r a) n (sym sizing-is ∙ e)
+
+  -- a span: number 5 does not hold, and the span is that of the definition
+  pub fit : (s : Span) → sizing op m r a ≡ Sized s → (axisFits op m a ≡ true) × (s ≡ spanOf op m r a)
+  fit s e = one-span (axisFits op m a) (spanOf op m r a) s (sym sizing-is ∙ e)

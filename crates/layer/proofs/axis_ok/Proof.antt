@@ -11,4 +11,5 @@ returns-2 : tie.Need-returns-2
 returns-2 c = simp (toZ-ofZ (c .before .fits .axis), ne-eqb _ _ (c .if1 .left))
 
 pub axis-ok-spec : {M : Type 1} → statement M
-axis-ok-spec = tie.close (tie.spec returns returns-2)
+axis-ok-spec = tie.close (tie.spec
+    returns returns-2)

@@ -1,0 +1,5 @@
+pub mod Counts
+pub mod Windows
+pub mod Checks
+pub mod Judge
+pub mod Facts

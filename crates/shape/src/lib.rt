@@ -1,0 +1,307 @@
+// Checks 1 to 7 of a layer, and what an accepted layer tells an operator.
+use layer::AutoPad;
+use layer::Axis;
+use layer::Layer;
+use layer::Op;
+use layer::Rounding;
+use layer::axis_ok;
+use layer::channels_ok;
+use layer::elements_ok;
+use layer::images_ok;
+use layer::is_default_axis;
+use layer::is_explicit;
+use layer::is_floor;
+use layer::is_pool;
+use layer::same_op;
+use layer::taps_ok;
+use sizes::Sizing;
+use sizes::Span;
+use sizes::axis_attributes_ok;
+use sizes::axis_dimensions_ok;
+use sizes::mode_ok;
+use sizes::size_axis;
+use sizes::some_missed;
+ghost use Prim.Native.Nat.{ℕ, _+_, _*_, _≤_};
+ghost use mathlib.Core.Path.{_≡_};
+ghost use mathlib.Core.Bool.{not, _&&_};
+ghost use Rattle.layer.specs.Kinds.{isPool};
+ghost use Rattle.layer.specs.Limits.{elementsOk, tapsOk};
+ghost use Rattle.sizes.specs.Taps.{spanWith};
+ghost use Rattle.sizes.specs.Bounds.{SpanLimits};
+ghost use Rattle.shape.specs.Counts.{capped, inputCount, kernelCount, tapCount, outputChannels};
+ghost use Rattle.shape.specs.Windows.{someEmpty};
+ghost use Rattle.shape.specs.Checks.{groupsWithin, dimensionsOk, padsAtDefault, axisAtDefault, axesOk, poolingOk, notPoolingOk, unusedOk, attributesOk, groupsOk, countsOk, spanY, spanX};
+ghost use Rattle.shape.specs.Judge.{shapeWith, judged};
+ghost use Rattle.shape.specs.Facts.{Passed, Fitted};
+
+// What an accepted layer comes to: its sizes, the spans of its axes, the taps of an output, and the elements of input, kernel and output.
+pub struct Shape {
+    pub n: usize,
+    pub c: usize,
+    pub g: usize,
+    pub o: usize,
+    pub i: usize,
+    pub y: Span,
+    pub x: Span,
+    pub taps: usize,
+    pub inputs: usize,
+    pub weights: usize,
+    pub outputs: usize,
+}
+
+// What checks 1 to 7 say: the shape, or the number.
+pub enum Judged {
+    Accepted(Shape),
+    Refused(u32),
+}
+
+// ---- number 1
+
+fn groups_within(op: Op, g: u32, o: u32, i: u32) -> bool
+    ensures { λ r. ⌜ r ≡ groupsWithin op g o i ⌝ }
+{
+    is_pool(op) | (channels_ok(g) & channels_ok(o) & channels_ok(i))
+}
+
+fn dimensions_ok(op: Op, l: Layer) -> bool
+    ensures { λ r. ⌜ r ≡ dimensionsOk op l ⌝ }
+{
+    (1 <= l.axes)
+        & (l.axes <= 2)
+        & images_ok(l.n)
+        & channels_ok(l.c)
+        & axis_dimensions_ok(l.x)
+        & ((l.axes == 1) | axis_dimensions_ok(l.y))
+        & groups_within(op, l.g, l.o, l.i)
+}
+
+// ---- number 2
+
+fn pads_at_default(m: AutoPad, begin: u32, end: u32) -> bool
+    ensures { λ r. ⌜ r ≡ padsAtDefault m begin end ⌝ }
+{
+    !is_explicit(m) | ((begin == Axis::PAD) & (end == Axis::PAD))
+}
+
+// Every field of an unused axis is at its default, but for pads that are ignored.
+fn axis_at_default(m: AutoPad, a: Axis) -> bool
+    ensures { λ r. ⌜ r ≡ axisAtDefault m a ⌝ }
+{
+    (a.input == Axis::SIZE)
+        & (a.kernel == Axis::SIZE)
+        & (a.stride == Axis::STRIDE)
+        & (a.dilation == Axis::DILATION)
+        & pads_at_default(m, a.pad_begin, a.pad_end)
+        & (a.output_padding == Axis::OUTPUT_PADDING)
+}
+
+fn axes_ok(op: Op, m: AutoPad, axes: u32, y: Axis, x: Axis) -> bool
+    ensures { λ r. ⌜ r ≡ axesOk op m axes y x ⌝ }
+{
+    axis_attributes_ok(op, m, x)
+        & axis_attributes_ok(op, m, y)
+        & ((axes == 2) | axis_at_default(m, y))
+}
+
+fn pooling_ok(axes: u32, axis: i32, g: u32, o: u32, i: u32) -> bool
+    ensures { λ r. ⌜ r ≡ poolingOk axes axis g o i ⌝ }
+{
+    axis_ok(axes, axis) & ((g == Layer::SIZE) & (o == Layer::SIZE) & (i == Layer::SIZE))
+}
+
+fn not_pooling_ok(rounding: Rounding, axis: i32) -> bool
+    ensures { λ r. ⌜ r ≡ notPoolingOk rounding axis ⌝ }
+{
+    is_floor(rounding) & is_default_axis(axis)
+}
+
+fn unused_ok(op: Op, l: Layer) -> bool
+    ensures { λ r. ⌜ r ≡ unusedOk op l ⌝ }
+{
+    let axis = l.axis;
+    let rounding = l.rounding;
+    if is_pool(op) {
+        pooling_ok(l.axes, axis, l.g, l.o, l.i)
+    } else {
+        not_pooling_ok(rounding, axis)
+    }
+}
+
+fn attributes_ok(op: Op, l: Layer) -> bool
+    ensures { λ r. ⌜ r ≡ attributesOk op l ⌝ }
+{
+    let own = l.op;
+    let m = l.auto_pad;
+    same_op(op, own) & mode_ok(op, m) & axes_ok(op, m, l.axes, l.y, l.x) & unused_ok(op, l)
+}
+
+// ---- numbers 3 and 4
+
+// The largest count that is told apart from larger ones: one past the limit.
+const CAP: usize = 16777217;
+
+fn cap(n: usize) -> usize
+    ensures { λ r. ⌜ r ≡ capped n ⌝ }
+{
+    if n <= CAP { n } else { CAP }
+}
+
+// A product of any two numbers, held at the cap.
+fn times(a: usize, b: usize) -> usize
+    ensures { λ r. ⌜ r ≡ capped (a * b) ⌝ }
+{
+    cap(cap(a) * cap(b))
+}
+
+// An element count a·b·y·x, held at the cap.
+fn volume(a: usize, b: usize, y: usize, x: usize) -> usize
+    ensures { λ r. ⌜ r ≡ capped (a * b * y * x) ⌝ }
+{
+    times(times(times(a, b), y), x)
+}
+
+fn input_count(n: u32, c: u32, y: u32, x: u32) -> usize
+    ensures { λ r. ⌜ r ≡ capped (n * c * y * x) ⌝ }
+{
+    volume(n as usize, c as usize, y as usize, x as usize)
+}
+
+fn tap_count(i: u32, y: u32, x: u32) -> usize
+    ensures { λ r. ⌜ r ≡ capped (i * y * x) ⌝ }
+{
+    times(times(i as usize, y as usize), x as usize)
+}
+
+fn kernel_count(g: u32, o: u32, i: u32, y: u32, x: u32) -> usize
+    ensures { λ r. ⌜ r ≡ capped (g * o * i * y * x) ⌝ }
+{
+    let channels = times(g as usize, o as usize);
+    volume(channels, i as usize, y as usize, x as usize)
+}
+
+// The product of two sizes of any value.
+fn product(a: u32, b: u32) -> usize
+    ensures { λ r. ⌜ r ≡ a * b ⌝ }
+{
+    a as usize * b as usize
+}
+
+fn groups_ok(op: Op, c: u32, g: u32, i: u32) -> bool
+    ensures { λ r. ⌜ r ≡ groupsOk op c g i ⌝ }
+{
+    is_pool(op) | (c as usize == product(g, i))
+}
+
+fn counts_ok(op: Op, l: Layer) -> bool
+    ensures { λ r. ⌜ r ≡ countsOk op l ⌝ }
+{
+    let y = l.y;
+    let x = l.x;
+    let taps = tap_count(l.i, y.kernel, x.kernel);
+    let input = input_count(l.n, l.c, y.input, x.input);
+    let kernel = kernel_count(l.g, l.o, l.i, y.kernel, x.kernel);
+    (is_pool(op) | taps_ok(taps)) & elements_ok(input) & elements_ok(kernel)
+}
+
+// ---- numbers 5 to 7
+
+fn output_channels(op: Op, c: u32, g: u32, o: u32) -> usize
+    ensures { λ r. ⌜ r ≡ outputChannels op c g o ⌝ }
+{
+    match op {
+        Op::Convolution => product(g, o),
+        Op::Transposed => product(g, o),
+        Op::MaxPool => c as usize,
+    }
+}
+
+// Number 7, one axis at a time: a window is empty exactly if it is on some axis.
+fn windows_ok(op: Op, ay: Axis, y: Span, ax: Axis, x: Span) -> bool
+    requires { ⌜ SpanLimits y × SpanLimits x ⌝ }
+    ensures { λ r. ⌜ r ≡ not (isPool op && someEmpty (spanWith ay (y .begin) (y .out)) (spanWith ax (x .begin) (x .out))) ⌝ }
+{
+    if is_pool(op) {
+        let missed_y = some_missed(ay, y.begin as u32, y.out as u32);
+        let missed_x = some_missed(ax, x.begin as u32, x.out as u32);
+        !(missed_y | missed_x)
+    } else {
+        true
+    }
+}
+
+fn shape_of(l: Layer, y: Span, x: Span, outputs: usize) -> Shape
+    requires { ⌜ (tapCount l ≤ 16777216) × (inputCount l ≤ 16777216) × (kernelCount l ≤ 16777216) ⌝ }
+    ensures { λ r. ⌜ r ≡ shapeWith l y x outputs ⌝ }
+{
+    let ay = l.y;
+    let ax = l.x;
+    let taps = tap_count(l.i, ay.kernel, ax.kernel);
+    let inputs = input_count(l.n, l.c, ay.input, ax.input);
+    let weights = kernel_count(l.g, l.o, l.i, ay.kernel, ax.kernel);
+    Shape {
+        n: l.n as usize,
+        c: l.c as usize,
+        g: l.g as usize,
+        o: l.o as usize,
+        i: l.i as usize,
+        y,
+        x,
+        taps,
+        inputs,
+        weights,
+        outputs,
+    }
+}
+
+// Checks 5 to 7.
+fn judge_sizes(op: Op, l: Layer) -> Judged
+    requires { ⌜ Passed op l ⌝ }
+    ensures { λ r. ⌜ r ≡ judged op l ⌝ }
+{
+    let m = l.auto_pad;
+    let rounding = l.rounding;
+    let sized_y = size_axis(op, m, rounding, l.y);
+    let Sizing::Sized(y) = sized_y else {
+        return Judged::Refused(5);
+    };
+    let sized_x = size_axis(op, m, rounding, l.x);
+    let Sizing::Sized(x) = sized_x else {
+        return Judged::Refused(5);
+    };
+    judge_spans(op, l, y, x)
+}
+
+// Checks 6 and 7.
+fn judge_spans(op: Op, l: Layer, y: Span, x: Span) -> Judged
+    requires { ⌜ Fitted op l y x ⌝ }
+    ensures { λ r. ⌜ r ≡ judged op l ⌝ }
+{
+    let channels = output_channels(op, l.c, l.g, l.o);
+    let outputs = volume(l.n as usize, channels, y.out, x.out);
+    if !elements_ok(outputs) {
+        return Judged::Refused(6);
+    }
+    if !windows_ok(op, l.y, y, l.x, x) {
+        return Judged::Refused(7);
+    }
+    Judged::Accepted(shape_of(l, y, x, outputs))
+}
+
+// Checks 1 to 7, lowest first, by the operator that is called.
+pub fn judge(op: Op, layer: Layer) -> Judged
+    ensures { λ r. ⌜ r ≡ judged op layer ⌝ }
+{
+    if !dimensions_ok(op, layer) {
+        return Judged::Refused(1);
+    }
+    if !attributes_ok(op, layer) {
+        return Judged::Refused(2);
+    }
+    if !groups_ok(op, layer.c, layer.g, layer.i) {
+        return Judged::Refused(3);
+    }
+    if !counts_ok(op, layer) {
+        return Judged::Refused(4);
+    }
+    judge_sizes(op, layer)
+}
