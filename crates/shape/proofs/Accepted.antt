@@ -56,6 +56,10 @@ allowed op l h =
       is = simp (s1 .0, s2 .0, s3 .0, s4 .0, s5 .0, s6 .0, s7 .0);
     }
 
+-- the number 0 is that of accepted layers alone
+pub accepted : (op : Op) (l : Layer) → numberOf (judged op l) ≡ 0 → judged op l ≡ Accepted (shapeOf op l)
+accepted op l h = allowed op l h .is
+
 -- the shape that is handed over is the layer's
 pub shape-is : (op : Op) (l : Layer) (s : Shape) → judged op l ≡ Accepted s → s ≡ shapeOf op l
 shape-is op l s e =

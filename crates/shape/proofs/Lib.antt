@@ -4,3 +4,4 @@ pub mod Limits
 pub mod Steps
 pub mod Fits
 pub mod Accepted
+pub mod Bench

@@ -3,3 +3,4 @@ pub mod Windows
 pub mod Checks
 pub mod Judge
 pub mod Facts
+pub mod Bench
