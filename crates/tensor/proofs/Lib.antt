@@ -1,0 +1,7 @@
+pub mod Table
+pub mod Places
+pub mod Order
+pub mod Element
+pub mod Largest
+pub mod Plane
+pub mod Peaks

@@ -1,0 +1,30 @@
+-- The plane picker: "from a tensor slice, its four sizes, an image and a channel, the plane is handed back as that part of the caller's own slice; it
+-- is the empty part .. exactly if a size breaks number 1's limits, the length is wrong, or image or channel is not below its count."
+use Prim.Native.Nat.{ℕ, _+_, _*_}
+use mathlib.Core.Bool.{Bool, _&&_, cond}
+use mathlib.Core.List.{List, []}
+use lib.Dec.{ltb, eqb}
+use lib.ListN.{length, take, drop}
+use lib.Ieee.{Float}
+use Rattle.layer.specs.Limits.{imagesOk, channelsOk, sizeOk}
+
+-- number 1's limits of the four sizes of a tensor
+unfoldable pub sizesOk : ℕ → ℕ → ℕ → ℕ → Bool
+sizesOk n c y x = imagesOk n && (channelsOk c && (sizeOk y && sizeOk x))
+
+-- whether a tensor slice of len elements with the sizes [n, c, y, x] has the plane of this image and channel
+unfoldable pub hasPlane : ℕ → ℕ → ℕ → ℕ → ℕ → ℕ → ℕ → Bool
+hasPlane len n c y x image channel = sizesOk n c y x && (eqb len (n * c * y * x) && (ltb image n && ltb channel c))
+
+-- the place where the plane begins: that of its row 0 and column 0
+abbrev pub planeStart : ℕ → ℕ → ℕ → ℕ → ℕ → ℕ
+planeStart c y x image channel = (image * c + channel) * (y * x)
+
+-- what the part holds
+abbrev pub planeOf : List Float → ℕ → ℕ → ℕ → ℕ → ℕ → ℕ → List Float
+planeOf tensor n c y x image channel =
+    cond (hasPlane (length tensor) n c y x image channel) (take (y * x) (drop (planeStart c y x image channel) tensor)) []
+
+-- where the part begins in the caller's slice, in elements: the empty part begins where the slice does
+abbrev pub partStart : ℕ → ℕ → ℕ → ℕ → ℕ → ℕ → ℕ → ℕ
+partStart len n c y x image channel = cond (hasPlane len n c y x image channel) (planeStart c y x image channel) 0

@@ -1,0 +1,238 @@
+// Tensors: places of elements, the element check, the best of a window, the plane picker and the peak finder.
+use layer::channels_ok;
+use layer::images_ok;
+use layer::size_ok;
+ghost use Prim.Native.Nat.{_+_, _*_, _/_, _%_};
+ghost use mathlib.Core.Path.{_≡_};
+ghost use lib.ListN.{length};
+ghost use Rattle.tensor.specs.Places.{positionOf};
+ghost use Rattle.tensor.specs.Element.{elementOk, firstBad};
+ghost use Rattle.tensor.specs.Window.{betterOf, bestOf, upTo};
+ghost use Rattle.tensor.specs.Plane.{sizesOk, hasPlane, planeOf, partStart};
+ghost use Rattle.tensor.specs.Peak.{noPeak, wrongLength, peakAt, peakOf};
+
+// ---- places
+
+// Where an element of a tensor [N, C, Y, X] stands.
+pub struct Position {
+    pub image: usize,
+    pub channel: usize,
+    pub row: usize,
+    pub column: usize,
+}
+
+// a / b, and 0 where b is 0.
+fn quotient(a: usize, b: usize) -> usize
+    ensures { λ r. ⌜ r ≡ a / b ⌝ }
+{
+    if b == 0 {
+        return 0;
+    }
+    a / b
+}
+
+// a % b, and a where b is 0.
+fn remainder(a: usize, b: usize) -> usize
+    ensures { λ r. ⌜ r ≡ a % b ⌝ }
+{
+    if b == 0 {
+        return a;
+    }
+    a % b
+}
+
+// The position of a flat place.
+pub fn position_of(channels: usize, height: usize, width: usize, place: usize) -> Position
+    ensures { λ r. ⌜ r ≡ positionOf channels height width place ⌝ }
+{
+    let rows = quotient(place, width);
+    let planes = quotient(rows, height);
+    Position {
+        image: quotient(planes, channels),
+        channel: remainder(planes, channels),
+        row: remainder(rows, height),
+        column: remainder(place, width),
+    }
+}
+
+// ---- the element check
+
+// What the element check finds: every element is good, or the first place of one that is not.
+pub enum Elements {
+    Good,
+    Bad(usize),
+}
+
+// Magnitude at most 2^40, and not NaN.
+fn element_ok(x: f32) -> bool
+    ensures { λ r. ⌜ r ≡ elementOk x ⌝ }
+{
+    (x <= 1099511627776.0) & (-1099511627776.0 <= x)
+}
+
+// Number 9: whether every element is good.
+pub fn check_elements(xs: &[f32]) -> Elements
+    ensures { λ r. ⌜ r ≡ firstBad (now (xs .entry)) ⌝ }
+{
+    let mut i = 0usize;
+    while i < xs.len() {
+        if !element_ok(xs[i]) {
+            return Elements::Bad(i);
+        }
+        i += 1;
+    }
+    Elements::Good
+}
+
+// ---- the best of a window
+
+// What a window holds: nothing, or its best value with its place.
+pub enum Window {
+    Empty,
+    Best(f32, usize),
+}
+
+// The window after one more element. Of two that are equal the first stays.
+pub fn better(w: Window, v: f32, p: usize) -> Window
+    ensures { λ r. ⌜ r ≡ betterOf w v p ⌝ }
+{
+    match w {
+        Window::Empty => Window::Best(v, p),
+        Window::Best(b, q) => {
+            if b < v {
+                Window::Best(v, p)
+            } else {
+                Window::Best(b, q)
+            }
+        }
+    }
+}
+
+// ---- the plane picker
+
+// Number 1's limits of the four sizes.
+fn sizes_ok(n: u32, c: u32, y: u32, x: u32) -> bool
+    ensures { λ r. ⌜ r ≡ sizesOk n c y x ⌝ }
+{
+    images_ok(n) & (channels_ok(c) & (size_ok(y) & size_ok(x)))
+}
+
+// Whether a slice of len elements is a tensor [n, c, y, x] with this image and channel.
+fn has_plane(len: usize, n: u32, c: u32, y: u32, x: u32, image: u32, channel: u32) -> bool
+    ensures { λ r. ⌜ r ≡ hasPlane len n c y x image channel ⌝ }
+{
+    if !sizes_ok(n, c, y, x) {
+        return false;
+    }
+    let count = n as usize * c as usize * y as usize * x as usize;
+    (len == count) & ((image < n) & (channel < c))
+}
+
+// The plane of an image and a channel, as a part of the caller's own slice; its empty part where there is none.
+pub fn pick_plane(
+    tensor: &[f32],
+    n: u32,
+    c: u32,
+    y: u32,
+    x: u32,
+    image: u32,
+    channel: u32,
+) -> &[f32]
+    ensures contents { λ r. ⌜ now r ≡ planeOf (now (tensor .entry)) n c y x image channel ⌝ }
+    ensures block { λ r. ⌜ r .ptr .0 ≡ tensor .entry .ptr .0 ⌝ }
+    ensures offset { λ r. ⌜ r .ptr .1 ≡ tensor .entry .ptr .1 + partStart (length (now (tensor .entry))) n c y x image channel * 4 ⌝ }
+{
+    let len = tensor.len();
+    if !has_plane(len, n, c, y, x, image, channel) {
+        return &tensor[0..0];
+    }
+    let size = y as usize * x as usize;
+    let start = (image as usize * c as usize + channel as usize) * size;
+    let end = start + size;
+    &tensor[start..end]
+}
+
+// ---- the peak finder
+
+// The first largest element of a plane.
+pub struct Peak {
+    pub value: f32,
+    pub row: usize,
+    pub column: usize,
+}
+
+// What the peak finder comes back with. The place is that of a bad element, for number 9.
+pub struct PeakAnswer {
+    pub number: u32,
+    pub place: usize,
+    pub peak: Peak,
+}
+
+// A refusal: the record is zeros.
+fn no_peak(number: u32, place: usize) -> PeakAnswer
+    ensures { λ r. ⌜ r ≡ noPeak number place ⌝ }
+{
+    PeakAnswer {
+        number,
+        place,
+        peak: Peak {
+            value: 0.0,
+            row: 0,
+            column: 0,
+        },
+    }
+}
+
+// Number 8: no width, no element, or a last row that is not whole.
+fn wrong_length(len: usize, width: usize) -> bool
+    ensures { λ r. ⌜ r ≡ wrongLength len width ⌝ }
+{
+    let rest = remainder(len, width);
+    (width == 0) | ((len == 0) | (rest != 0))
+}
+
+// The best of a whole plane.
+fn best_of_plane(plane: &[f32]) -> Window
+    ensures { λ r. ⌜ r ≡ bestOf (now (plane .entry)) (upTo (length (now (plane .entry)))) Window.Empty ⌝ }
+{
+    let mut best = Window::Empty;
+    let mut i = 0usize;
+    while i < plane.len() {
+        best = better(best, plane[i], i);
+        i += 1;
+    }
+    best
+}
+
+// The answer for the best of a plane, which holds an element where the plane does.
+fn peak_at(width: usize, best: Window) -> PeakAnswer
+    ensures { λ r. ⌜ r ≡ peakAt width best ⌝ }
+{
+    match best {
+        Window::Empty => no_peak(8, 0),
+        Window::Best(v, p) => PeakAnswer {
+            number: 0,
+            place: 0,
+            peak: Peak {
+                value: v,
+                row: quotient(p, width),
+                column: remainder(p, width),
+            },
+        },
+    }
+}
+
+// The peak of a plane with rows of this width.
+pub fn find_peak(plane: &[f32], width: usize) -> PeakAnswer
+    ensures { λ r. ⌜ r ≡ peakOf (now (plane .entry)) width ⌝ }
+{
+    if wrong_length(plane.len(), width) {
+        return no_peak(8, 0);
+    }
+    let found = check_elements(plane);
+    if let Elements::Bad(p) = found {
+        return no_peak(9, p);
+    }
+    let best = best_of_plane(plane);
+    peak_at(width, best)
+}
