@@ -1,0 +1,4 @@
+-- Taps and their sums; no overflow; demand 3.
+pub mod Taps
+pub mod Finite
+pub mod Whole
