@@ -1,0 +1,17 @@
+-- For the operators' code: slices that fit an accepted shape.
+use Prim.Native.Nat.{ℕ, _*_}
+use mathlib.Core.Path.{_≡_}
+use mathlib.Core.List.{List}
+use lib.ListN.{length}
+use lib.Ieee.{Float}
+use Rattle.shape.specs.declared.Shape.{Shape}
+use Rattle.shape.specs.Facts.{Grouped}
+
+-- kernel rows of one output
+abbrev pub rows : Shape → ℕ
+rows s = s .i * s .y .kernel
+
+pub record Fitting (s : Shape) (input kernel : List Float) : Type 0 where
+  pub shape : Grouped s
+  pub input-length : length input ≡ s .inputs
+  pub kernel-length : length kernel ≡ s .weights

@@ -1,0 +1,5 @@
+-- Laws of convolution: its places, their reading in the words of document 01, the bounds of what the code computes, its kernel rows.
+pub mod Places
+pub mod Reading
+pub mod Bounds
+pub mod Rows

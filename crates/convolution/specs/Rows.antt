@@ -1,0 +1,60 @@
+-- For the code, and no part of what is promised: an output's taps from its first tap on, by rows of the kernel. proofs/Places.antt joins them to `placeOf`.
+use Prim.Native.Nat.{ℕ, _+_, _-_, _*_, _/_, _%_, _≤_}
+use mathlib.Core.Bool.{_&&_, cond}
+use mathlib.Core.List.{List, []}
+use lib.ListN.{length, take, drop}
+use lib.Ieee.{Float}
+use Rattle.sizes.specs.Taps.{inside}
+use Rattle.shape.specs.declared.Shape.{Shape}
+use Rattle.tensor.specs.declared.Position.{Position}
+use Rattle.tensor.specs.Places.{positionOf}
+use Rattle.tensor.specs.Table.{read, plusZero}
+use Rattle.sums.specs.Taps.{Place, outside, at}
+use Rattle.convolution.specs.Convolution.{groupOf}
+use Rattle.convolution.specs.declared.FirstTap.{FirstTap}
+
+-- the first tap of the output at a position: its plane of the input, its weight, and its row and column counted from the start of the padding
+abbrev pub firstTapAt : Shape → Position → FirstTap
+firstTapAt s p =
+    record {
+      plane = p .image * s .c + groupOf s (p .channel) * s .i;
+      weight = p .channel * s .taps;
+      row = p .row * s .y .stride;
+      column = p .column * s .x .stride;
+    }
+
+-- the first tap of output number j
+abbrev pub firstTapOf : Shape → ℕ → FirstTap
+firstTapOf s j = firstTapAt s (positionOf (s .g * s .o) (s .y .out) (s .x .out) j)
+
+-- the tap at row p and column q of a plane, counted from the start of the padding, with this weight
+unfoldable pub paddedPlace : Shape → ℕ → ℕ → ℕ → ℕ → Place
+paddedPlace s plane p q weight =
+    cond (inside (s .y .begin) (s .y .input) p && inside (s .x .begin) (s .x .input) q)
+    (at ((plane * s .y .input + (p - s .y .begin)) * s .x .input + (q - s .x .begin)) weight)
+    (outside weight)
+
+-- tap number t from a first tap on
+unfoldable pub placeFrom : Shape → FirstTap → ℕ → Place
+placeFrom s f t =
+    paddedPlace s
+    (f .plane + t / s .x .kernel / s .y .kernel)
+    (f .row + t / s .x .kernel % s .y .kernel * s .y .dilation)
+    (f .column + t % s .x .kernel * s .x .dilation)
+    (f .weight + t)
+
+-- the element of a row at column q, counted from the start of the padding: +0 outside the row
+unfoldable pub columnValue : List Float → ℕ → ℕ → Float
+columnValue row begin q = cond (inside begin (length row) q) (read row (q - begin)) plusZero
+
+-- the part of the input that is row p of a plane, counted from the start of the padding: empty outside the input
+unfoldable pub rowPart : List Float → ℕ → ℕ → ℕ → ℕ → ℕ → List Float
+rowPart input plane begin height width p =
+    cond (inside begin height p) (take width (drop ((plane * height + (p - begin)) * width) input)) []
+
+-- a first tap whose output lies in the tensors with all its taps
+pub record Within (s : Shape) (f : FirstTap) : Type 0 where
+  pub plane : f .plane + s .i ≤ s .n * s .c
+  pub weight : f .weight + s .taps ≤ s .weights
+  pub row : f .row ≤ 1064704
+  pub column : f .column ≤ 1064704
