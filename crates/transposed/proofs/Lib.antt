@@ -1,0 +1,6 @@
+pub mod Reaching
+pub mod Places
+pub mod Reading
+pub mod Bounds
+pub mod Rows
+pub mod Bench
