@@ -1,0 +1,6 @@
+pub mod Scan
+pub mod Modulus
+pub mod Bounds
+pub mod Accepted
+pub mod Largest
+pub mod Bench
