@@ -1,0 +1,119 @@
+// What a sheet comes to: the sizes of its layer's output, or the number that refuses it, as values and as the text that the program prints.
+use layer::Layer;
+use layer::Op;
+use shape::Judged;
+use shape::judge;
+use sheet::Read;
+use sheet::input_list;
+use sheet::read_sheet;
+use text::Five;
+use text::put_list_line;
+ghost use mathlib.Core.Path.{_≡_};
+ghost use mathlib.Core.List.{_++_};
+ghost use Prim.Native.Nat.{ℕ, _*_, _≤_};
+ghost use Rattle.shape.specs.Counts.{outputChannels};
+ghost use Rattle.text.specs.Numbers.{decimal};
+ghost use Rattle.text.specs.Lines.{showLine};
+ghost use Rattle.text.specs.Put.{Put};
+ghost use Rattle.report.specs.Output.{outputOf};
+ghost use Rattle.report.specs.Report.{answerLine, lineLine, outputLine, sizesReport, reportOf};
+
+// The sizes of an output: images, channels, rows and columns.
+pub struct Output {
+    pub n: u32,
+    pub c: u32,
+    pub y: u32,
+    pub x: u32,
+}
+
+// The sizes of an output, or the number of a refusal.
+pub enum OutputSizes {
+    Sizes(Output),
+    NoSizes(u32),
+}
+
+fn channels_of(op: Op, c: usize, g: usize, o: usize) -> usize
+    requires { ⌜ outputChannels op c g o ≤ 16777216 ⌝ }
+    ensures { λ r. ⌜ r ≡ outputChannels op c g o ⌝ }
+{
+    match op {
+        Op::Convolution => g * o,
+        Op::Transposed => g * o,
+        Op::MaxPool => c,
+    }
+}
+
+// Checks 1 to 7 of the layer's own operator, and the sizes of the output.
+pub fn output_sizes(layer: Layer) -> OutputSizes
+    ensures { λ r. ⌜ r ≡ outputOf layer ⌝ }
+{
+    let op = layer.op;
+    let judged = judge(op, layer);
+    match judged {
+        Judged::Refused(number) => OutputSizes::NoSizes(number),
+        Judged::Accepted(s) => {
+            let c = channels_of(op, s.c, s.g, s.o);
+            OutputSizes::Sizes(Output {
+                n: s.n as u32,
+                c: c as u32,
+                y: s.y.out as u32,
+                x: s.x.out as u32,
+            })
+        }
+    }
+}
+
+// ---- the text that the program prints
+
+// A line with one number.
+fn put_number_line(buf: &mut [u8], at: usize, key: &[u8], n: u32) -> usize
+    ensures { λ r. ⌜ Put (now (buf .entry)) at (showLine (now (key .entry)) (decimal n)) r (now (buf .exit)) ⌝ }
+{
+    let one = Five {
+        a: n,
+        b: 0,
+        c: 0,
+        d: 0,
+        e: 0,
+    };
+    put_list_line(buf, at, key, 1, one)
+}
+
+// The lines of an accepted layer.
+fn put_output(buf: &mut [u8], axes: u32, o: Output) -> usize
+    ensures { λ r. ⌜ Put (now (buf .entry)) 0 (answerLine 0 ++ outputLine axes o) r (now (buf .exit)) ⌝ }
+{
+    let sizes = input_list(axes, o.n, o.c, o.y, o.x);
+    let next = put_number_line(buf, 0, b"answer=", 0);
+    put_list_line(buf, next, b"output=", axes as usize + 2, sizes)
+}
+
+// The lines of a layer that is read.
+fn put_layer(buf: &mut [u8], layer: Layer) -> usize
+    ensures { λ r. ⌜ Put (now (buf .entry)) 0 (sizesReport (layer .axes) (outputOf layer)) r (now (buf .exit)) ⌝ }
+{
+    let sizes = output_sizes(layer);
+    match sizes {
+        OutputSizes::NoSizes(number) => put_number_line(buf, 0, b"answer=", number),
+        OutputSizes::Sizes(o) => put_output(buf, layer.axes, o),
+    }
+}
+
+// The lines of a sheet that is not read.
+fn put_refusal(buf: &mut [u8], number: u32, line: u32) -> usize
+    ensures { λ r. ⌜ Put (now (buf .entry)) 0 (answerLine number ++ lineLine line) r (now (buf .exit)) ⌝ }
+{
+    let next = put_number_line(buf, 0, b"answer=", number);
+    put_number_line(buf, next, b"line=", line)
+}
+
+// The report of a sheet, from the start of the buffer, as far as it goes; the place after it.
+pub fn report(sheet: &[u8], buf: &mut [u8]) -> usize
+    ensures { λ r. ⌜ Put (now (buf .entry)) 0 (reportOf (now (sheet .entry))) r (now (buf .exit)) ⌝ }
+{
+    let read = read_sheet(sheet);
+    match read {
+        Read::Refused(number, line) => put_refusal(buf, number, line),
+        Read::Sheet(layer) => put_layer(buf, layer),
+    }
+}

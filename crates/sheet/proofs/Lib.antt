@@ -1,0 +1,5 @@
+pub mod ReaderLaws
+pub mod WriterLaws
+pub mod ValueLaws
+pub mod LayerLaws
+pub mod RoundTrip

@@ -1,0 +1,13 @@
+-- `unused_rounding` meets its contract.
+use borrow.Author.Needs.{needs}
+use Rattle.sheet.proofs.unused_rounding.Statement.{statement}
+use Rattle.sheet.proofs.unused_rounding.Tie as tie
+
+returns : tie.Need-returns
+returns c = rw (c .before .is-pool .ensures, c .is-floor .ensures)
+
+pub unused-rounding-spec : {M : Type 1} → statement M
+unused-rounding-spec =
+    tie.close
+    (tie.spec
+    (λ c κs. search needs) (λ c κs. search needs) returns)

@@ -1,0 +1,5 @@
+pub mod Values
+pub mod Layers
+pub mod Reader
+pub mod Writer
+pub mod Fits
