@@ -1,0 +1,89 @@
+-- The C boundary. Each call takes the text of a sheet: a sheet that is not read is refused with its number, 20 to 23, and its line; else the answer is that of
+-- the function on the layer that the sheet says. What a number does not use is 0.
+use Prim.Native.Nat.{ℕ}
+use mathlib.Core.List.{List}
+use lib.IntN.{ℤ}
+use lib.ListN.{length}
+use lib.Ieee.{Float}
+use Rattle.layer.specs.declared.Op.{Op}
+use Rattle.layer.specs.declared.Layer.{Layer}
+use Rattle.layer.specs.declared.Answer.{Answer}
+use Rattle.shape.specs.declared.Shape.{Shape}
+use Rattle.tensor.specs.declared.PeakAnswer.{PeakAnswer}
+use Rattle.sums.specs.Taps.{Place}
+use Rattle.call.specs.Call.{answerOf, contentsOf}
+use Rattle.pooling.specs.Call.{maxPoolAnswer, maxPoolValues, maxPoolIndices}
+use Rattle.sheet.specs.Writer.{writeSheet, bufferAfter}
+use Rattle.sheet.specs.declared.Read.{Read}
+use Rattle.sheet.specs.declared.Read.the-variants.{Sheet, Refused}
+use Rattle.sheet.specs.declared.Written.{Written}
+use Rattle.report.specs.declared.Output.{Output}
+use Rattle.report.specs.declared.OutputSizes.{OutputSizes}
+use Rattle.report.specs.declared.OutputSizes.the-variants.{Sizes, NoSizes}
+use Rattle.report.specs.Output.{outputOf}
+use Rattle.kozamyure.specs.declared.CallAnswer.{CallAnswer}
+use Rattle.kozamyure.specs.declared.ShapeAnswer.{ShapeAnswer}
+use Rattle.kozamyure.specs.declared.PeakFound.{PeakFound}
+use Rattle.kozamyure.specs.declared.SheetWritten.{SheetWritten}
+
+-- ---- the operators
+
+-- a sheet that is not read
+abbrev pub unread : ℕ → ℕ → CallAnswer
+unread number line = record { number = number; line = line; tensor = 0; place = 0 }
+
+-- an operator's own answer
+abbrev pub answered : Answer → CallAnswer
+answered a = record { number = a .number; line = 0; tensor = a .tensor; place = a .place }
+
+unfoldable pub callAnswer : Op → Read → List Float → List Float → ℕ → CallAnswer
+callAnswer op (Sheet l) input kernel output = answered (answerOf op l input kernel output)
+callAnswer op (Refused number line) input kernel output = unread number line
+
+-- a refused call leaves its output as it was
+unfoldable pub callContents : Op → (Shape → ℕ → ℕ → Place) → Read → List Float → List Float → List Float → List Float
+callContents op place (Sheet l) input kernel before = contentsOf op place l input kernel before
+callContents op place (Refused number line) input kernel before = before
+
+unfoldable pub poolAnswer : Read → List Float → List Float → List ℤ → CallAnswer
+poolAnswer (Sheet l) input values indices = answered (maxPoolAnswer l input values indices)
+poolAnswer (Refused number line) input values indices = unread number line
+
+unfoldable pub poolValues : Read → List Float → List Float → List ℤ → List Float
+poolValues (Sheet l) input values indices = maxPoolValues l input values indices
+poolValues (Refused number line) input values indices = values
+
+unfoldable pub poolIndices : Read → List Float → List Float → List ℤ → List ℤ
+poolIndices (Sheet l) input values indices = maxPoolIndices l input values indices
+poolIndices (Refused number line) input values indices = indices
+
+-- ---- the output's sizes, by checks 1 to 7 of the sheet's own operator
+
+abbrev pub noShape : ℕ → ℕ → ShapeAnswer
+noShape number line = record { number = number; line = line; axes = 0; n = 0; c = 0; y = 0; x = 0 }
+
+abbrev pub sizesShape : ℕ → OutputSizes → ShapeAnswer
+sizesShape axes (Sizes o) = record { number = 0; line = 0; axes = axes; n = o .n; c = o .c; y = o .y; x = o .x }
+sizesShape axes (NoSizes number) = noShape number 0
+
+unfoldable pub shapeAnswer : Read → ShapeAnswer
+shapeAnswer (Sheet l) = sizesShape (l .axes) (outputOf l)
+shapeAnswer (Refused number line) = noShape number line
+
+-- ---- the peak finder
+
+abbrev pub peakFound : PeakAnswer → PeakFound
+peakFound a = record { number = a .number; place = a .place; value = a .peak .value; row = a .peak .row; column = a .peak .column }
+
+-- ---- a sheet read and written back
+
+abbrev pub writtenBack : Written → SheetWritten
+writtenBack w = record { number = w .number; line = w .line; length = w .length }
+
+unfoldable pub rewriteAnswer : Read → ℕ → SheetWritten
+rewriteAnswer (Sheet l) room = writtenBack (writeSheet l room)
+rewriteAnswer (Refused number line) room = record { number = number; line = line; length = 0 }
+
+unfoldable pub rewriteBuffer : Read → List ℕ → List ℕ
+rewriteBuffer (Sheet l) buffer = bufferAfter l buffer
+rewriteBuffer (Refused number line) buffer = buffer

@@ -1,0 +1,215 @@
+// The C boundary, declared in include/kozamyure.h: every function takes the text of a sheet and lent tensors, and asks nothing of its caller.
+use convolution::convolution;
+use layer::Answer;
+use layer::Layer;
+use pooling::max_pool;
+use report::OutputSizes;
+use report::output_sizes;
+use sheet::Read;
+use sheet::read_sheet;
+use sheet::write_sheet;
+use tensor::find_peak;
+use transposed::transposed;
+ghost use mathlib.Core.Path.{_≡_};
+ghost use lib.ListN.{length};
+ghost use Rattle.layer.specs.declared.Op.the-variants.{Convolution, Transposed};
+ghost use Rattle.tensor.specs.Peak.{peakOf};
+ghost use Rattle.convolution.specs.Convolution.{placeOf as convolutionPlaces};
+ghost use Rattle.transposed.specs.Transposed.{placeOf as transposedPlaces};
+ghost use Rattle.sheet.specs.Reader.{readSheet};
+ghost use Rattle.report.specs.Output.{outputOf};
+ghost use Rattle.kozamyure.specs.Boundary.{unread, answered, callAnswer, callContents, poolAnswer, poolValues, poolIndices, noShape, sizesShape, shapeAnswer, peakFound, rewriteAnswer, rewriteBuffer};
+
+// An operator's answer: the line for numbers 20 to 23, the tensor and the place for 9.
+#[repr(C)]
+pub struct CallAnswer {
+    pub number: u32,
+    pub line: u32,
+    pub tensor: u32,
+    pub place: usize,
+}
+
+// The sizes of an output; zeros but for number and line where the sheet or the layer is refused.
+#[repr(C)]
+pub struct ShapeAnswer {
+    pub number: u32,
+    pub line: u32,
+    pub axes: u32,
+    pub n: u32,
+    pub c: u32,
+    pub y: u32,
+    pub x: u32,
+}
+
+// The peak of a plane; zeros but for number and place where the plane is refused.
+#[repr(C)]
+pub struct PeakFound {
+    pub number: u32,
+    pub place: usize,
+    pub value: f32,
+    pub row: usize,
+    pub column: usize,
+}
+
+// A sheet written back: its length, or the number and the line of a refusal.
+#[repr(C)]
+pub struct SheetWritten {
+    pub number: u32,
+    pub line: u32,
+    pub length: usize,
+}
+
+fn no_call(number: u32, line: u32) -> CallAnswer
+    ensures { λ r. ⌜ r ≡ unread number line ⌝ }
+{
+    CallAnswer {
+        number,
+        line,
+        tensor: 0,
+        place: 0,
+    }
+}
+
+fn call_answer(a: Answer) -> CallAnswer
+    ensures { λ r. ⌜ r ≡ answered a ⌝ }
+{
+    CallAnswer {
+        number: a.number,
+        line: 0,
+        tensor: a.tensor,
+        place: a.place,
+    }
+}
+
+#[no_mangle]
+pub extern "C" fn koza_convolution(
+    sheet: &[u8],
+    input: &[f32],
+    kernel: &[f32],
+    output: &mut [f32],
+) -> CallAnswer
+    ensures answer { λ r. ⌜ r ≡ callAnswer Convolution (readSheet (now (sheet .entry))) (now (input .entry)) (now (kernel .entry)) (length (now (output .entry))) ⌝ }
+    ensures contents { λ _. ⌜ now (output .exit) ≡ callContents Convolution convolutionPlaces (readSheet (now (sheet .entry))) (now (input .entry)) (now (kernel .entry)) (now (output .entry)) ⌝ }
+{
+    let read = read_sheet(sheet);
+    match read {
+        Read::Refused(number, line) => no_call(number, line),
+        Read::Sheet(layer) => call_answer(convolution(layer, input, kernel, output)),
+    }
+}
+
+#[no_mangle]
+pub extern "C" fn koza_transposed(
+    sheet: &[u8],
+    input: &[f32],
+    kernel: &[f32],
+    output: &mut [f32],
+) -> CallAnswer
+    ensures answer { λ r. ⌜ r ≡ callAnswer Transposed (readSheet (now (sheet .entry))) (now (input .entry)) (now (kernel .entry)) (length (now (output .entry))) ⌝ }
+    ensures contents { λ _. ⌜ now (output .exit) ≡ callContents Transposed transposedPlaces (readSheet (now (sheet .entry))) (now (input .entry)) (now (kernel .entry)) (now (output .entry)) ⌝ }
+{
+    let read = read_sheet(sheet);
+    match read {
+        Read::Refused(number, line) => no_call(number, line),
+        Read::Sheet(layer) => call_answer(transposed(layer, input, kernel, output)),
+    }
+}
+
+#[no_mangle]
+pub extern "C" fn koza_maxpool(
+    sheet: &[u8],
+    input: &[f32],
+    values: &mut [f32],
+    indices: &mut [i64],
+) -> CallAnswer
+    ensures answer { λ r. ⌜ r ≡ poolAnswer (readSheet (now (sheet .entry))) (now (input .entry)) (now (values .entry)) (now (indices .entry)) ⌝ }
+    ensures values { λ _. ⌜ now (values .exit) ≡ poolValues (readSheet (now (sheet .entry))) (now (input .entry)) (now (values .entry)) (now (indices .entry)) ⌝ }
+    ensures indices { λ _. ⌜ now (indices .exit) ≡ poolIndices (readSheet (now (sheet .entry))) (now (input .entry)) (now (values .entry)) (now (indices .entry)) ⌝ }
+{
+    let read = read_sheet(sheet);
+    match read {
+        Read::Refused(number, line) => no_call(number, line),
+        Read::Sheet(layer) => call_answer(max_pool(layer, input, values, indices)),
+    }
+}
+
+fn no_shape(number: u32, line: u32) -> ShapeAnswer
+    ensures { λ r. ⌜ r ≡ noShape number line ⌝ }
+{
+    ShapeAnswer {
+        number,
+        line,
+        axes: 0,
+        n: 0,
+        c: 0,
+        y: 0,
+        x: 0,
+    }
+}
+
+fn layer_shape(layer: Layer) -> ShapeAnswer
+    ensures { λ r. ⌜ r ≡ sizesShape (layer .axes) (outputOf layer) ⌝ }
+{
+    let sizes = output_sizes(layer);
+    match sizes {
+        OutputSizes::NoSizes(number) => no_shape(number, 0),
+        OutputSizes::Sizes(o) => ShapeAnswer {
+            number: 0,
+            line: 0,
+            axes: layer.axes,
+            n: o.n,
+            c: o.c,
+            y: o.y,
+            x: o.x,
+        },
+    }
+}
+
+#[no_mangle]
+pub extern "C" fn koza_shape(sheet: &[u8]) -> ShapeAnswer
+    ensures { λ r. ⌜ r ≡ shapeAnswer (readSheet (now (sheet .entry))) ⌝ }
+{
+    let read = read_sheet(sheet);
+    match read {
+        Read::Refused(number, line) => no_shape(number, line),
+        Read::Sheet(layer) => layer_shape(layer),
+    }
+}
+
+#[no_mangle]
+pub extern "C" fn koza_peak(plane: &[f32], width: usize) -> PeakFound
+    ensures { λ r. ⌜ r ≡ peakFound (peakOf (now (plane .entry)) width) ⌝ }
+{
+    let a = find_peak(plane, width);
+    let peak = a.peak;
+    PeakFound {
+        number: a.number,
+        place: a.place,
+        value: peak.value,
+        row: peak.row,
+        column: peak.column,
+    }
+}
+
+#[no_mangle]
+pub extern "C" fn koza_rewrite(sheet: &[u8], buffer: &mut [u8]) -> SheetWritten
+    ensures answer { λ r. ⌜ r ≡ rewriteAnswer (readSheet (now (sheet .entry))) (length (now (buffer .entry))) ⌝ }
+    ensures contents { λ _. ⌜ now (buffer .exit) ≡ rewriteBuffer (readSheet (now (sheet .entry))) (now (buffer .entry)) ⌝ }
+{
+    let read = read_sheet(sheet);
+    match read {
+        Read::Refused(number, line) => SheetWritten {
+            number,
+            line,
+            length: 0,
+        },
+        Read::Sheet(layer) => {
+            let w = write_sheet(layer, buffer);
+            SheetWritten {
+                number: w.number,
+                line: w.line,
+                length: w.length,
+            }
+        }
+    }
+}

@@ -1,0 +1,245 @@
+//! Compares the static library with the reference on generated calls, bit for bit, buffers of refused calls included.
+//! usage: differential [CALLS] [SEED]      (100,000 calls and seed 1 by default)
+use kozamyure_tests::boundary;
+use kozamyure_tests::generate::{self, Kind, Random};
+use kozamyure_tests::reference::{self, Layer, Op, Refusal, Shape, Sum};
+use std::process::ExitCode;
+
+/// Numbers that every run must see, each at least this often in 100,000 calls.
+const SEEN: [(u32, u64); 14] = [
+    (0, 20_000), (1, 300), (2, 300), (3, 300), (4, 100), (5, 300), (6, 100), (7, 300), (8, 300), (9, 300), (20, 300), (21, 300), (22, 100), (23, 100),
+];
+
+#[derive(Default)]
+struct Counts {
+    by_number: std::collections::BTreeMap<u32, u64>,
+    whole: u64,
+    exact: u64,
+    outputs: u64,
+    peaks: u64,
+    rewritten: u64,
+    failures: u64,
+}
+
+impl Counts {
+    fn fail(&mut self, what: &str, sheet: &[u8], detail: String) {
+        self.failures += 1;
+        if self.failures <= 5 {
+            eprintln!("FAILED: {what}: {detail}\nsheet:\n{}", String::from_utf8_lossy(sheet));
+        }
+    }
+}
+
+fn bits(v: &[f32]) -> Vec<u32> {
+    v.iter().map(|x| x.to_bits()).collect()
+}
+
+fn answer_of(r: Refusal) -> boundary::Answer {
+    boundary::Answer { number: r.number, line: r.line, tensor: r.tensor, place: r.place }
+}
+
+const DONE: Refusal = Refusal { number: 0, line: 0, tensor: 0, place: 0 };
+
+/// The shape call: sizes of the output, or the refusal.
+fn check_shape(counts: &mut Counts, sheet: &[u8], read: &Result<Layer, Refusal>) {
+    let judged = read.and_then(|l| reference::judge(l.op, &l).map(|s| (l, s)));
+    let expected = match judged {
+        Ok((l, s)) => boundary::ShapeAnswer {
+            number: 0, line: 0, axes: l.axes as u32, n: l.n as u32, c: s.channels as u32, y: s.y.out as u32, x: s.x.out as u32,
+        },
+        Err(r) => boundary::ShapeAnswer { number: r.number, line: r.line, axes: 0, n: 0, c: 0, y: 0, x: 0 },
+    };
+    let got = boundary::shape(sheet);
+    if got != expected {
+        counts.fail("shape", sheet, format!("{got:?}, expected {expected:?}"));
+    }
+}
+
+/// The sheet written back: the same bytes for every sheet that is read, and a short buffer left alone.
+fn check_rewrite(r: &mut Random, counts: &mut Counts, sheet: &[u8], read: &Result<Layer, Refusal>) {
+    let room = if r.chance(4) { r.range(0, sheet.len() as u64 + 3) as usize } else { sheet.len() + r.range(0, 4) as usize };
+    let before: Vec<u8> = (0..room).map(|_| r.next() as u8).collect();
+    let mut buffer = before.clone();
+    let got = boundary::rewrite(sheet, &mut buffer);
+    let mut after = before;
+    let expected = match read {
+        Err(e) => boundary::Written { number: e.number, line: e.line, length: 0 },
+        Ok(_) if room < sheet.len() => boundary::Written { number: 24, line: 0, length: 0 },
+        Ok(_) => {
+            after[..sheet.len()].copy_from_slice(sheet);
+            counts.rewritten += 1;
+            boundary::Written { number: 0, line: 0, length: sheet.len() }
+        }
+    };
+    if got != expected || buffer != after {
+        counts.fail("rewrite", sheet, format!("{got:?}, expected {expected:?}"));
+    }
+}
+
+/// Demand 3, by exact integers.
+fn check_whole(counts: &mut Counts, sheet: &[u8], shape: &Shape, sums: &[Sum], output: &[f32]) {
+    let k = shape.taps as i128;
+    for (sum, out) in sums.iter().zip(output) {
+        counts.whole += 1;
+        let near = out.fract() == 0.0 && (*out as i128 - sum.exact).abs() <= (k - 1) * (k + 2) / 2;
+        let same = sum.magnitudes > 16_777_216 || *out as i128 == sum.exact;
+        counts.exact += u64::from(sum.magnitudes <= 16_777_216);
+        if !near || !same {
+            counts.fail("demand 3", sheet, format!("{out} for the exact sum {} of {k} taps", sum.exact));
+        }
+    }
+}
+
+struct Call<'a> {
+    sheet: &'a [u8],
+    layer: Option<&'a Layer>,
+    read: Option<Refusal>,
+    kind: Kind,
+    input: Vec<f32>,
+    kernel: Vec<f32>,
+    outputs: usize,
+}
+
+fn check_convolution(r: &mut Random, counts: &mut Counts, op: Op, call: &Call) -> u32 {
+    let before: Vec<f32> = (0..call.outputs).map(|_| f32::from_bits(r.next() as u32)).collect();
+    let mut output = before.clone();
+    let got = if op == Op::Convolution {
+        boundary::convolution(call.sheet, &call.input, &call.kernel, &mut output)
+    } else {
+        boundary::transposed(call.sheet, &call.input, &call.kernel, &mut output)
+    };
+    let result = match call.layer {
+        None => Err(call.read.expect("a sheet is read or refused")),
+        Some(l) => reference::convolve(op, l, &call.input, &call.kernel, call.outputs),
+    };
+    let (expected, after) = match &result {
+        Err(e) => (answer_of(*e), bits(&before)),
+        Ok((_, sums)) => (answer_of(DONE), sums.iter().map(|s| s.value.to_bits()).collect()),
+    };
+    if got != expected || bits(&output) != after {
+        counts.fail("convolution", call.sheet, format!("{op:?}: {got:?}, expected {expected:?}; output {output:?}"));
+    }
+    if let Ok((shape, sums)) = &result {
+        counts.outputs += sums.len() as u64;
+        if call.kind == Kind::Whole {
+            check_whole(counts, call.sheet, shape, sums, &output);
+        }
+    }
+    got.number
+}
+
+fn check_maxpool(r: &mut Random, counts: &mut Counts, call: &Call, indices: usize) -> u32 {
+    let before: Vec<f32> = (0..call.outputs).map(|_| f32::from_bits(r.next() as u32)).collect();
+    let places: Vec<i64> = (0..indices).map(|_| r.next() as i64).collect();
+    let (mut values, mut found) = (before.clone(), places.clone());
+    let got = boundary::maxpool(call.sheet, &call.input, &mut values, &mut found);
+    let result = match call.layer {
+        None => Err(call.read.expect("a sheet is read or refused")),
+        Some(l) => reference::max_pool(l, &call.input, call.outputs, indices),
+    };
+    let (expected, v, p) = match &result {
+        Err(e) => (answer_of(*e), bits(&before), places),
+        Ok((v, p)) => (answer_of(DONE), bits(v), p.clone()),
+    };
+    if got != expected || bits(&values) != v || found != p {
+        counts.fail("maxpool", call.sheet, format!("{got:?}, expected {expected:?}; values {values:?}, indices {found:?}"));
+    }
+    counts.outputs += result.map_or(0, |(v, _)| v.len() as u64);
+    got.number
+}
+
+fn check_peak(r: &mut Random, counts: &mut Counts) {
+    let kind = generate::kind(r);
+    let (width, height) = (r.range(0, 6) as usize, r.range(0, 6) as usize);
+    let len = generate::length(r, (width * height) as u64);
+    let plane = generate::tensor(r, kind, len);
+    let got = boundary::peak(&plane, width);
+    let expected = match reference::find_peak(&plane, width) {
+        Ok((v, row, column)) => (0, 0, v.to_bits(), row, column),
+        Err(e) => (e.number, e.place, 0, 0, 0),
+    };
+    counts.peaks += 1;
+    if (got.number, got.place, got.value.to_bits(), got.row, got.column) != expected {
+        counts.fail("peak", b"", format!("{got:?} of {plane:?} with width {width}"));
+    }
+}
+
+fn one_call(r: &mut Random, counts: &mut Counts) {
+    let mut layer = generate::layer(r);
+    if r.chance(3) {
+        generate::spoil(r, &mut layer);
+        if r.chance(6) {
+            generate::spoil(r, &mut layer);
+        }
+    }
+    let sheet = generate::sheet(r, &layer);
+    let read = reference::read_sheet(&sheet);
+    check_shape(counts, &sheet, &read);
+    if r.chance(8) {
+        check_rewrite(r, counts, &sheet, &read);
+    }
+    if r.chance(8) {
+        check_peak(r, counts);
+    }
+    // The operator of the sheet, seldom another.
+    let own = read.map_or(layer.op, |l| l.op);
+    let op = if r.chance(30) { r.pick(&[Op::Convolution, Op::Transposed, Op::MaxPool]) } else { own };
+    let shape = read.ok().and_then(|l| reference::judge(op, &l).ok());
+    let (inputs, weights, outputs) = shape.map_or((3, 2, 4), |s| (s.inputs, s.weights, s.outputs));
+    if inputs > 40_000 || weights > 40_000 || outputs * shape.map_or(1, |s| s.taps) > 400_000 {
+        // Too large to compute often: the shape call has checked it.
+        return;
+    }
+    let kind = generate::kind(r);
+    let input_len = generate::length(r, inputs);
+    let kernel_len = generate::length(r, weights);
+    let call = Call {
+        sheet: &sheet,
+        layer: read.as_ref().ok(),
+        read: read.as_ref().err().copied(),
+        kind,
+        input: generate::tensor(r, kind, input_len),
+        kernel: generate::tensor(r, kind, kernel_len),
+        outputs: generate::length(r, outputs),
+    };
+    let number = match op {
+        Op::MaxPool => {
+            let indices = generate::length(r, outputs);
+            check_maxpool(r, counts, &call, indices)
+        }
+        _ => check_convolution(r, counts, op, &call),
+    };
+    *counts.by_number.entry(number).or_default() += 1;
+}
+
+fn main() -> ExitCode {
+    let args: Vec<u64> = std::env::args().skip(1).map(|a| a.parse().expect("numbers: CALLS SEED")).collect();
+    let calls = args.first().copied().unwrap_or(100_000);
+    let mut r = Random::new(args.get(1).copied().unwrap_or(1));
+    let mut counts = Counts::default();
+    let mut made = 0;
+    while made < calls {
+        one_call(&mut r, &mut counts);
+        made = counts.by_number.values().sum();
+    }
+    println!("{made} calls, {} outputs, {} of them whole, {} in the exact case", counts.outputs, counts.whole, counts.exact);
+    println!("{} peaks, {} sheets written back", counts.peaks, counts.rewritten);
+    let numbers: Vec<String> = counts.by_number.iter().map(|(n, c)| format!("{n}: {c}")).collect();
+    println!("numbers seen: {}", numbers.join(", "));
+    let mut rare = false;
+    for (number, least) in SEEN {
+        let seen = counts.by_number.get(&number).copied().unwrap_or(0);
+        if seen * 100_000 < least * made {
+            println!("number {number} is too rare: {seen}");
+            rare = true;
+        }
+    }
+    if counts.failures > 0 {
+        println!("{} comparisons FAILED", counts.failures);
+    }
+    if rare || counts.failures > 0 {
+        return ExitCode::FAILURE;
+    }
+    println!("all agree");
+    ExitCode::SUCCESS
+}

@@ -1,0 +1,289 @@
+//! A fixed stream of calls: layers that are mostly valid, each number's faults often, damaged sheets, wrong lengths, and elements at every edge.
+use crate::reference::{show_sheet, AutoPad, Axis, Layer, Op, UNUSED};
+
+/// A small generator of its own (xorshift), so that a seed gives the same calls everywhere.
+pub struct Random(u64);
+
+impl Random {
+    pub fn new(seed: u64) -> Self {
+        Random(seed.wrapping_mul(0x9E37_79B9_7F4A_7C15) | 1)
+    }
+
+    pub fn next(&mut self) -> u64 {
+        self.0 ^= self.0 << 13;
+        self.0 ^= self.0 >> 7;
+        self.0 ^= self.0 << 17;
+        self.0.wrapping_mul(0x2545_F491_4F6C_DD1D) >> 16
+    }
+
+    /// A number from lo to hi.
+    pub fn range(&mut self, lo: u64, hi: u64) -> u64 {
+        lo + self.next() % (hi - lo + 1)
+    }
+
+    pub fn chance(&mut self, one_in: u64) -> bool {
+        self.next() % one_in == 0
+    }
+
+    pub fn pick<T: Copy>(&mut self, from: &[T]) -> T {
+        from[(self.next() % from.len() as u64) as usize]
+    }
+}
+
+fn axis(r: &mut Random, op: Op, two: bool) -> Axis {
+    let largest = if two { 7 } else { 24 };
+    let wide = r.chance(40);
+    Axis {
+        size: r.range(1, largest),
+        kernel: r.range(1, 4),
+        stride: if wide { r.range(1, 16) } else { r.range(1, 3) },
+        dilation: if wide { r.range(1, 16) } else { r.range(1, 3) },
+        begin: r.range(0, 3),
+        end: r.range(0, 3),
+        extra: if op == Op::Transposed { r.range(0, 3) } else { 0 },
+    }
+}
+
+/// A layer that is valid more often than not, small enough to be computed.
+pub fn layer(r: &mut Random) -> Layer {
+    let op = r.pick(&[Op::Convolution, Op::Transposed, Op::MaxPool]);
+    let axes = r.range(1, 2);
+    let (g, o, i) = if op == Op::MaxPool { (1, 1, 1) } else { (r.range(1, 3), r.range(1, 3), r.range(1, 3)) };
+    let auto_pad = if op == Op::Transposed {
+        r.pick(&[AutoPad::Explicit, AutoPad::Explicit, AutoPad::Valid])
+    } else {
+        r.pick(&[AutoPad::Explicit, AutoPad::SameUpper, AutoPad::SameLower, AutoPad::Valid])
+    };
+    let rank = axes as i64 + 2;
+    Layer {
+        op,
+        axes,
+        n: r.range(1, 2),
+        c: if op == Op::MaxPool { r.range(1, 3) } else { g * i },
+        g,
+        o,
+        i,
+        y: if axes == 2 { axis(r, op, true) } else { UNUSED },
+        x: axis(r, op, axes == 2),
+        auto_pad,
+        ceil: op == Op::MaxPool && r.chance(2),
+        axis: if op == Op::MaxPool { r.range(0, 2 * rank as u64 - 1) as i64 - rank } else { 0 },
+    }
+}
+
+/// One field set to an edge: 0, its limit, one above, the largest u32, or something near.
+pub fn spoil(r: &mut Random, l: &mut Layer) {
+    let edge = r.pick(&[0, 1, 2, 15, 16, 17, 63, 64, 65, 1023, 1024, 1025, 4095, 4096, 4097, u64::from(u32::MAX)]);
+    let field = r.range(0, 21);
+    let two = l.axes == 2;
+    let a = if two && r.chance(2) { &mut l.y } else { &mut l.x };
+    match field {
+        0 => l.n = edge,
+        1 => l.c = edge,
+        2 => a.size = edge,
+        3 => a.kernel = edge,
+        4 => a.stride = edge,
+        5 => a.dilation = edge,
+        6 => a.begin = edge,
+        7 => a.end = edge,
+        8 if l.op == Op::Transposed => a.extra = edge,
+        9 | 10 if l.op != Op::MaxPool => l.g = edge,
+        11 if l.op != Op::MaxPool => l.o = edge,
+        12 if l.op != Op::MaxPool => l.i = edge,
+        13 => l.axis = if l.op == Op::MaxPool { r.range(0, 18) as i64 - 9 } else { 0 },
+        14 if l.op == Op::Transposed => l.auto_pad = r.pick(&[AutoPad::SameUpper, AutoPad::SameLower]),
+        // Too many taps, or elements in input or kernel: number 4.
+        15 => {
+            a.kernel = 64;
+            if l.op != Op::MaxPool {
+                l.i = 65;
+                l.c = l.g * 65;
+            }
+        }
+        16 => {
+            l.n = 16;
+            l.x.size = 4096;
+            if two {
+                l.y.size = 4096;
+            }
+            if l.op == Op::MaxPool {
+                l.c = 1024;
+            }
+        }
+        // Outputs above the limit: number 6.
+        17 | 18 => {
+            l.auto_pad = AutoPad::Explicit;
+            l.x.begin = 1024;
+            l.x.end = 1024;
+            l.x.stride = 1;
+            l.x.size = 4096;
+            if two {
+                l.y.begin = 1024;
+                l.y.end = 1024;
+                l.y.stride = 1;
+                l.y.size = 900;
+                l.n = 1;
+            } else {
+                l.n = 16;
+            }
+            if l.op == Op::MaxPool {
+                l.c = if two { 3 } else { 250 };
+            } else {
+                l.g = 1;
+                l.i = 1;
+                l.c = 1;
+                l.o = 1024;
+            }
+            if l.op == Op::Transposed {
+                l.x.begin = 0;
+                l.x.end = 0;
+                l.x.stride = 16;
+                l.y.begin = 0;
+                l.y.end = 0;
+            }
+        }
+        // Windows that miss the input: number 7.
+        19 | 20 => {
+            if l.op == Op::MaxPool {
+                l.ceil = true;
+                a.stride = r.range(2, 9);
+                a.dilation = r.range(1, 16);
+                a.kernel = r.range(1, 3);
+            }
+        }
+        _ => l.auto_pad = r.pick(&[AutoPad::Explicit, AutoPad::Valid]),
+    }
+}
+
+/// A sheet of the layer, at times damaged: a line, a byte, the end, or the order.
+pub fn sheet(r: &mut Random, l: &Layer) -> Vec<u8> {
+    let mut text = show_sheet(l).into_bytes();
+    if !r.chance(6) {
+        return text;
+    }
+    match r.range(0, 9) {
+        0 => {
+            let at = r.range(0, text.len() as u64 - 1) as usize;
+            text[at] = r.pick(&[b'0', b'9', b',', b'=', b'\n', b'-', b' ', b'x', 0, 255]);
+        }
+        1 => {
+            let at = r.range(0, text.len() as u64 - 1) as usize;
+            text.remove(at);
+        }
+        2 => {
+            let at = r.range(0, text.len() as u64) as usize;
+            text.insert(at, r.pick(&[b'0', b'1', b',', b'\n', b' ', b'\r']));
+        }
+        3 => text.truncate(r.range(0, text.len() as u64 - 1) as usize),
+        4 => text.extend_from_slice(r.pick(&[&b"\n"[..], b"x", b"axis=0\n", b" "])),
+        _ => {
+            let string = String::from_utf8(text).expect("a sheet is text");
+            let mut lines: Vec<String> = string.lines().map(str::to_string).collect();
+            let (from, to) = r.pick(&[
+                ("op=", "op=pool"),
+                ("auto_pad=", "auto_pad=same"),
+                ("auto_pad=", "auto_pad=SAME_UPPER"),
+                ("rounding=", "rounding=ceil"),
+                ("rounding=", "rounding=round"),
+                ("axis=", "axis=-0"),
+                ("axis=", "axis=10"),
+                ("axis=", "axis=1"),
+                ("axis=", "axis=-9"),
+                ("axis=", "axis="),
+                ("axes=", "axes=3"),
+                ("axes=", "axes=02"),
+                ("axes=", "axes=1"),
+                ("strides=", "strides=1,1,1"),
+                ("strides=", "strides=01,1"),
+                ("strides=", "strides=4294967296,1"),
+                ("strides=", "strides=1,,1"),
+                ("dilations=", "dilations=1,1"),
+                ("output_padding=", "output_padding=1,0"),
+                ("output_padding=", "output_padding=1"),
+                ("output_padding=", "output_padding=0,0"),
+                ("kernel=", "kernel=1,1"),
+                ("kernel=", "kernel=1,1,1,1,1"),
+                ("input=", "input=1,1,4,4"),
+                ("input=", "input=-1,1,4,4"),
+            ]);
+            for line in lines.iter_mut().filter(|s| s.starts_with(from)) {
+                *line = to.to_string();
+            }
+            if r.chance(6) {
+                let (a, b) = (r.range(0, 11) as usize, r.range(0, 11) as usize);
+                lines.swap(a, b);
+            }
+            text = lines.into_iter().map(|s| s + "\n").collect::<String>().into_bytes();
+        }
+    }
+    text
+}
+
+/// How a call's elements are drawn.
+#[derive(Clone, Copy, Debug, PartialEq, Eq)]
+pub enum Kind {
+    /// Whole numbers of magnitude up to 4,096: demand 3's premise.
+    Whole,
+    /// Any good f32, signed zeros, subnormals and 2^40 among them.
+    Any,
+}
+
+pub fn kind(r: &mut Random) -> Kind {
+    r.pick(&[Kind::Whole, Kind::Whole, Kind::Any])
+}
+
+const LIMIT: f32 = 1_099_511_627_776.0;
+
+fn element(r: &mut Random, kind: Kind) -> f32 {
+    match kind {
+        Kind::Whole => {
+            let magnitude = match r.range(0, 9) {
+                0 => 0.0,
+                1 => 4096.0,
+                2 => r.range(4000, 4096) as f32,
+                3..=5 => r.range(0, 4096) as f32,
+                _ => r.range(0, 60) as f32,
+            };
+            if r.chance(2) { -magnitude } else { magnitude }
+        }
+        Kind::Any => match r.range(0, 19) {
+            0 => 0.0,
+            1 => -0.0,
+            2 => f32::from_bits(r.range(1, 0x007F_FFFF) as u32),
+            3 => -f32::from_bits(r.range(1, 0x007F_FFFF) as u32),
+            4 => LIMIT,
+            5 => -LIMIT,
+            6 => f32::from_bits(LIMIT.to_bits() - 1),
+            7 => f32::MIN_POSITIVE,
+            8 => r.range(0, 3) as f32 - 1.0,
+            _ => {
+                let v = f32::from_bits((r.next() & 0xFFFF_FFFF) as u32);
+                if v.is_nan() || v.abs() > LIMIT { 0.5 } else { v }
+            }
+        },
+    }
+}
+
+/// Elements of a tensor, seldom with a bad one.
+pub fn tensor(r: &mut Random, kind: Kind, len: usize) -> Vec<f32> {
+    let mut t: Vec<f32> = (0..len).map(|_| element(r, kind)).collect();
+    if len > 0 && r.chance(24) {
+        for _ in 0..r.range(1, 2) {
+            let at = r.range(0, len as u64 - 1) as usize;
+            t[at] = r.pick(&[
+                f32::NAN, -f32::NAN, f32::INFINITY, f32::NEG_INFINITY, f32::from_bits(LIMIT.to_bits() + 1), -f32::from_bits(LIMIT.to_bits() + 1), f32::MAX,
+                f32::from_bits(0x7F80_0001),
+            ]);
+        }
+    }
+    t
+}
+
+/// A length that is seldom wrong.
+pub fn length(r: &mut Random, len: u64) -> usize {
+    let len = len as usize;
+    if !r.chance(30) {
+        return len;
+    }
+    r.pick(&[len + 1, len.saturating_sub(1), 0, 2 * len])
+}
