@@ -4,4 +4,3 @@ pub mod Limits
 pub mod Steps
 pub mod Fits
 pub mod Accepted
-pub mod Bench

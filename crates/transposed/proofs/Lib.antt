@@ -3,4 +3,3 @@ pub mod Places
 pub mod Reading
 pub mod Bounds
 pub mod Rows
-pub mod Bench
