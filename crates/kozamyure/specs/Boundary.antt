@@ -6,7 +6,6 @@ use lib.IntN.{ℤ}
 use lib.ListN.{length}
 use lib.Ieee.{Float}
 use Rattle.layer.specs.declared.Op.{Op}
-use Rattle.layer.specs.declared.Layer.{Layer}
 use Rattle.layer.specs.declared.Answer.{Answer}
 use Rattle.shape.specs.declared.Shape.{Shape}
 use Rattle.tensor.specs.declared.PeakAnswer.{PeakAnswer}
@@ -17,7 +16,6 @@ use Rattle.sheet.specs.Writer.{writeSheet, bufferAfter}
 use Rattle.sheet.specs.declared.Read.{Read}
 use Rattle.sheet.specs.declared.Read.the-variants.{Sheet, Refused}
 use Rattle.sheet.specs.declared.Written.{Written}
-use Rattle.report.specs.declared.Output.{Output}
 use Rattle.report.specs.declared.OutputSizes.{OutputSizes}
 use Rattle.report.specs.declared.OutputSizes.the-variants.{Sizes, NoSizes}
 use Rattle.report.specs.Output.{outputOf}

@@ -1,5 +1,4 @@
 // The layer record: what a layer sheet says of one layer, with its limits and defaults, and the answer record of a call.
-ghost use Prim.Native.Nat.{ℕ};
 ghost use mathlib.Core.Path.{_≡_};
 ghost use Rattle.layer.specs.Kinds.{isPool, isTransposed, isConvolution, sameOp, isExplicit, isSame, isFloor};
 ghost use Rattle.layer.specs.Limits.{within, imagesOk, channelsOk, sizeOk, kernelOk, stepOk, padOk, outputPaddingOk, tapsOk, elementsOk, axisOk};

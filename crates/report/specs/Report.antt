@@ -2,12 +2,10 @@
 -- `output=1,2,2,2` (two lines, for the sheet above); else `answer=` with the number, and for 20 to 23 a second line `line=`."
 use Prim.Native.Nat.{ℕ, _+_}
 use mathlib.Core.List.{List, _++_}
-use Rattle.layer.specs.declared.Layer.{Layer}
 use Rattle.text.specs.Texts.{text}
 use Rattle.text.specs.Numbers.{decimal}
 use Rattle.text.specs.Lists.{showNumbers}
 use Rattle.text.specs.Lines.{showLine}
-use Rattle.text.specs.declared.Five.{Five}
 use Rattle.sheet.specs.Layers.{inputCount, inputList}
 use Rattle.sheet.specs.Reader.{readSheet}
 use Rattle.sheet.specs.declared.Read.{Read}

@@ -10,7 +10,7 @@ use text::Five;
 use text::put_list_line;
 ghost use mathlib.Core.Path.{_≡_};
 ghost use mathlib.Core.List.{_++_};
-ghost use Prim.Native.Nat.{ℕ, _*_, _≤_};
+ghost use Prim.Native.Nat.{_*_, _≤_};
 ghost use Rattle.shape.specs.Counts.{outputChannels};
 ghost use Rattle.text.specs.Numbers.{decimal};
 ghost use Rattle.text.specs.Lines.{showLine};

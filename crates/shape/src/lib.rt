@@ -21,16 +21,15 @@ use sizes::axis_dimensions_ok;
 use sizes::mode_ok;
 use sizes::size_axis;
 use sizes::some_missed;
-ghost use Prim.Native.Nat.{ℕ, _+_, _*_, _≤_};
+ghost use Prim.Native.Nat.{_*_, _≤_};
 ghost use mathlib.Core.Path.{_≡_};
 ghost use mathlib.Core.Bool.{not, _&&_};
 ghost use Rattle.layer.specs.Kinds.{isPool};
-ghost use Rattle.layer.specs.Limits.{elementsOk, tapsOk};
 ghost use Rattle.sizes.specs.Taps.{spanWith};
 ghost use Rattle.sizes.specs.Bounds.{SpanLimits};
 ghost use Rattle.shape.specs.Counts.{capped, inputCount, kernelCount, tapCount, outputChannels};
 ghost use Rattle.shape.specs.Windows.{someEmpty};
-ghost use Rattle.shape.specs.Checks.{groupsWithin, dimensionsOk, padsAtDefault, axisAtDefault, axesOk, poolingOk, notPoolingOk, unusedOk, attributesOk, groupsOk, countsOk, spanY, spanX};
+ghost use Rattle.shape.specs.Checks.{groupsWithin, dimensionsOk, padsAtDefault, axisAtDefault, axesOk, poolingOk, notPoolingOk, unusedOk, attributesOk, groupsOk, countsOk};
 ghost use Rattle.shape.specs.Judge.{shapeWith, judged};
 ghost use Rattle.shape.specs.Facts.{Passed, Fitted};
 

@@ -11,7 +11,7 @@ use layer::output_padding_ok;
 use layer::pad_ok;
 use layer::size_ok;
 use layer::step_ok;
-ghost use Prim.Native.Nat.{ℕ, _^_, _+_, _-_, _*_, _/_, _≤_, _<_, min};
+ghost use Prim.Native.Nat.{_^_, _+_, _-_, _*_, _/_, _≤_, _<_, min};
 ghost use mathlib.Core.Path.{_≡_};
 ghost use mathlib.Core.Bool.{true};
 ghost use Rattle.sizes.specs.Size.{ceilDiv, dilatedKernel, padded, explicitOut, validOut, sameOut, sameTotal, padsOf, windowOut, transposedOut, outOf, windowFits, axisFits};

@@ -5,9 +5,9 @@ use mathlib.Core.List.{List}
 use Prim.Native.Nat.{ℕ, zero, suc, _*_, _^_, _≤_, _<_}
 use native.Mathlib.Nat.{lt-of-le-of-lt, zero-lt-suc, mul-one, mul-assoc, mul-le-mul-right, suc-mul}
 use native.Mathlib.Omega.{arith}
-use lib.Dec.{T, leb→le, lit≤, lit<}
+use lib.Dec.{T, lit≤, lit<}
 use lib.ListN.{length}
-use lib.Ieee.{Float, nan, inf, fin, binary32, up, down, mul}
+use lib.Ieee.{Float, nan, inf, fin, binary32, up, mul}
 use lib.Ieee.Exact.{round-exact}
 use Rattle.tensor.specs.Table.{read, plusZero}
 use Rattle.tensor.specs.Element.{elementOk}

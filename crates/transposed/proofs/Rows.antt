@@ -9,7 +9,7 @@ use Rattle.shape.specs.Facts.{Grouped}
 use Rattle.tensor.specs.Table.{read, plusZero}
 use Rattle.tensor.proofs.Table.{part-length, part-read}
 use Rattle.tensor.proofs.Places.{place-div, place-mod}
-use Rattle.sums.specs.Taps.{Place, at, Tap, none, pair, tapAt, sumFrom, tapsOf, outputOf}
+use Rattle.sums.specs.Taps.{Place, at, none, pair, tapAt, sumFrom, tapsOf, outputOf}
 use Rattle.sums.proofs.Sums.{sum-same, sum-none}
 use Rattle.call.specs.Fitting.{rows}
 use Rattle.transposed.specs.declared.FirstTap.{FirstTap}

@@ -8,7 +8,7 @@ use shape::Shape;
 use sums::add_product;
 use tensor::position_of;
 ghost use mathlib.Core.Path.{_≡_};
-ghost use Prim.Native.Nat.{ℕ, _+_, _*_, _≤_, _<_};
+ghost use Prim.Native.Nat.{_+_, _*_, _≤_, _<_};
 ghost use lib.ListN.{length};
 ghost use Rattle.shape.specs.Facts.{Grouped};
 ghost use Rattle.sums.specs.Taps.{addTap, tapAt, sumFrom, outputOf, outputsOf};
