@@ -26,6 +26,10 @@ pub or-other : (a b : Bool) → a || b ≡ true → a ≡ false → b ≡ true
 or-other true b h e = absurd (false≢true (sym e))
 or-other false b h e = h
 
+pub or-neither : (a b : Bool) → a || b ≡ false → (a ≡ false) × (b ≡ false)
+or-neither true b h = absurd (false≢true (sym h))
+or-neither false b h = (refl, h)
+
 pub not-and : (a b : Bool) → not (a && b) ≡ not a || not b
 not-and true b = refl
 not-and false b = refl

@@ -1,5 +1,6 @@
 pub mod Table
 pub mod Places
+pub mod Lines
 pub mod Order
 pub mod Element
 pub mod Largest

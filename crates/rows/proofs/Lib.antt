@@ -1,0 +1,4 @@
+-- Laws of rows of sums.
+pub mod Rows
+pub mod Spread
+pub mod Held

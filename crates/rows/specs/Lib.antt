@@ -1,0 +1,2 @@
+-- Rows of running sums.
+pub mod Rows
