@@ -1,0 +1,4 @@
+-- Laws of padded rows.
+pub mod Values
+pub mod Groups
+pub mod Limits

@@ -1,0 +1,275 @@
+// A kernel row over a row of the input with padding: its taps for one output, and for outputs side by side. Columns are counted from the start of the padding; a
+// tap outside the row has the value +0.
+use rows::add_taps;
+use rows::add_zeros;
+use rows::steps;
+use sizes::least;
+use sizes::minus;
+use sums::add_product;
+use sums::row_sum;
+ghost use mathlib.Core.Path.{_≡_};
+ghost use Prim.Native.Nat.{_+_, _*_, _≤_, _<_};
+ghost use lib.ListN.{length};
+ghost use Rattle.tensor.specs.Table.{read, plusZero};
+ghost use Rattle.sums.specs.Taps.{pair, sumFrom};
+ghost use Rattle.rows.specs.Rows.{Summed};
+ghost use Rattle.padded.specs.Padded.{columnValue, paddedTaps, columnsBefore, sumLimits, rowLimits, added};
+
+// ---- one output
+
+// The element of a row at column q, counted from the start of the padding: +0 outside the row.
+fn column_value(row: &[f32], begin: usize, q: usize) -> f32
+    ensures { λ r. ⌜ r ≡ columnValue (now (row .entry)) begin q ⌝ }
+{
+    if q < begin {
+        return 0.0;
+    }
+    let at = q - begin;
+    if at < row.len() { row[at] } else { 0.0 }
+}
+
+// The sum so far, and then the taps of one kernel row, of which the first lies at this column.
+fn padded_row_sum(
+    sum: f32,
+    row: &[f32],
+    weights: &[f32],
+    first: usize,
+    dilation: usize,
+    begin: usize,
+) -> f32
+    requires { ⌜ (length (now weights) ≤ 64) × ((dilation ≤ 16) × (first ≤ 1066768)) ⌝ }
+    ensures { λ r. ⌜ r ≡ sumFrom sum (λ k. pair (columnValue (now (row .entry)) begin (first + k * dilation)) (read (now (weights .entry)) k)) (length (now (weights .entry))) ⌝ }
+{
+    let mut total = sum;
+    let mut k = 0;
+    while k < weights.len() {
+        total = add_product(
+            total,
+            column_value(row, begin, first + k * dilation),
+            weights[k],
+        );
+        k += 1;
+    }
+    total
+}
+
+// The same. Taps that follow one another and all lie inside the row are handed on as its part, without a test of each column.
+fn row_taps_sum(
+    sum: f32,
+    row: &[f32],
+    weights: &[f32],
+    first: usize,
+    dilation: usize,
+    begin: usize,
+) -> f32
+    requires { ⌜ (length (now weights) ≤ 64) × ((dilation ≤ 16) × ((first ≤ 1066768) × (begin ≤ 1024))) ⌝ }
+    ensures { λ r. ⌜ r ≡ sumFrom sum (λ k. pair (columnValue (now (row .entry)) begin (first + k * dilation)) (read (now (weights .entry)) k)) (length (now (weights .entry))) ⌝ }
+{
+    let end = first + weights.len();
+    if (dilation == 1) & (begin <= first) & (end <= begin + row.len()) {
+        let from = first - begin;
+        let to = end - begin;
+        return row_sum(sum, &row[from..to], weights);
+    }
+    padded_row_sum(sum, row, weights, first, dilation, begin)
+}
+
+fn sum_limits(begin: usize, dilation: usize, first: usize, taps: usize) -> bool
+    ensures { λ r. ⌜ r ≡ sumLimits begin dilation first taps ⌝ }
+{
+    (begin <= 1024) & (dilation <= 16) & (first <= 1066768) & (taps <= 64)
+}
+
+// The sum so far, and then the taps of one kernel row over a row of the input, of which the first lies at column `first`, counted from the start of the padding.
+// Beyond document 01's limits no tap is added.
+pub fn kernel_row_sum(
+    sum: f32,
+    row: &[f32],
+    weights: &[f32],
+    first: usize,
+    dilation: usize,
+    begin: usize,
+) -> f32
+    ensures { λ r. ⌜ r ≡ sumFrom sum (λ k. pair (columnValue (now (row .entry)) begin (first + k * dilation)) (read (now (weights .entry)) k)) (added (sumLimits begin dilation first (length (now (weights .entry)))) (length (now (weights .entry)))) ⌝ }
+{
+    if !sum_limits(begin, dilation, first, weights.len()) {
+        return sum;
+    }
+    row_taps_sum(sum, row, weights, first, dilation, begin)
+}
+
+// ---- outputs side by side
+
+// How many of the n columns q, stride + q, 2 * stride + q, .. lie before `end`; none are counted with a stride of 0.
+pub fn columns_before(q: usize, stride: usize, end: usize, n: usize) -> usize
+    ensures { λ r. ⌜ r ≡ columnsBefore q stride end n ⌝ }
+{
+    least(steps(minus(end, q), stride), n)
+}
+
+// Some taps of a kernel row more for each of some outputs of a row, output by output. The first tap of the first output lies at column q.
+fn add_each(
+    out: &mut [f32],
+    row: &[f32],
+    weights: &[f32],
+    begin: usize,
+    stride: usize,
+    dilation: usize,
+    q: usize,
+)
+    requires { ⌜ (length (now weights) ≤ 64) × ((dilation ≤ 16) × (q + length (now out) * stride ≤ 1066768)) ⌝ }
+    ensures { λ _. ⌜ Summed (paddedTaps (now (row .entry)) (now (weights .entry)) begin stride dilation q) (length (now (weights .entry))) (length (now (out .entry))) (now (out .entry)) (now (out .exit)) ⌝ }
+{
+    let mut x = 0;
+    while x < out.len() {
+        out[x] = padded_row_sum(out[x], row, weights, q + x * stride, dilation, begin);
+        x += 1;
+    }
+}
+
+// The same for all outputs of a row. Those from lo up to hi have all these taps inside the row, whose part is handed on.
+fn add_group(
+    out: &mut [f32],
+    row: &[f32],
+    weights: &[f32],
+    begin: usize,
+    stride: usize,
+    dilation: usize,
+    q: usize,
+)
+    requires { ⌜ (1 ≤ stride) × ((stride ≤ 16) × ((dilation ≤ 16) × (begin ≤ 1024))) ⌝ }
+    requires { ⌜ (1 ≤ length (now weights)) × ((length (now weights) ≤ 64) × ((length (now row) ≤ 4096) × ((length (now out) ≤ 66544) × (q ≤ 2064)))) ⌝ }
+    ensures { λ _. ⌜ Summed (paddedTaps (now (row .entry)) (now (weights .entry)) begin stride dilation q) (length (now (weights .entry))) (length (now (out .entry))) (now (out .entry)) (now (out .exit)) ⌝ }
+{
+    let n = out.len();
+    let last = q + (weights.len() - 1) * dilation;
+    let lo = columns_before(q, stride, begin, n);
+    let hi = columns_before(last, stride, begin + row.len(), n);
+    if hi <= lo {
+        add_each(out, row, weights, begin, stride, dilation, q);
+        return;
+    }
+    let from = lo * stride + q - begin;
+    add_each(&mut out[0..lo], row, weights, begin, stride, dilation, q);
+    add_taps(&mut out[lo..hi], &row[from..], weights, stride, dilation);
+    add_each(
+        &mut out[hi..n],
+        row,
+        weights,
+        begin,
+        stride,
+        dilation,
+        q + hi * stride,
+    );
+}
+
+// The taps of a kernel row outside the input more for each output of a row.
+pub fn add_outside(out: &mut [f32], weights: &[f32])
+    ensures { λ _. ⌜ Summed (λ x k. pair plusZero (read (now (weights .entry)) k)) (length (now (weights .entry))) (length (now (out .entry))) (now (out .entry)) (now (out .exit)) ⌝ }
+{
+    let mut k = 0;
+    while k < weights.len() {
+        add_zeros(out, weights[k]);
+        k += 1;
+    }
+}
+
+// The taps of a kernel row more for each of some outputs of a row, three taps at a time. The first tap of the first output lies at column q.
+fn add_kernel_row(
+    out: &mut [f32],
+    row: &[f32],
+    weights: &[f32],
+    begin: usize,
+    stride: usize,
+    dilation: usize,
+    q: usize,
+)
+    requires { ⌜ (1 ≤ stride) × ((stride ≤ 16) × ((dilation ≤ 16) × (begin ≤ 1024))) ⌝ }
+    requires { ⌜ (length (now weights) ≤ 64) × ((length (now row) ≤ 4096) × ((length (now out) ≤ 66544) × (q ≤ 1040))) ⌝ }
+    ensures { λ _. ⌜ Summed (paddedTaps (now (row .entry)) (now (weights .entry)) begin stride dilation q) (length (now (weights .entry))) (length (now (out .entry))) (now (out .entry)) (now (out .exit)) ⌝ }
+{
+    let n = weights.len();
+    let mut k = 0;
+    while k < n {
+        let end = least(k + 3, n);
+        add_group(
+            out,
+            row,
+            &weights[k..end],
+            begin,
+            stride,
+            dilation,
+            q + k * dilation,
+        );
+        k = end;
+    }
+}
+
+// The same. The input's row is empty outside the input.
+fn add_row(
+    out: &mut [f32],
+    row: &[f32],
+    weights: &[f32],
+    begin: usize,
+    stride: usize,
+    dilation: usize,
+    q: usize,
+)
+    requires { ⌜ (1 ≤ stride) × ((stride ≤ 16) × ((dilation ≤ 16) × (begin ≤ 1024))) ⌝ }
+    requires { ⌜ (length (now weights) ≤ 64) × ((length (now row) ≤ 4096) × ((length (now out) ≤ 66544) × (q ≤ 1040))) ⌝ }
+    ensures { λ _. ⌜ Summed (paddedTaps (now (row .entry)) (now (weights .entry)) begin stride dilation q) (length (now (weights .entry))) (length (now (out .entry))) (now (out .entry)) (now (out .exit)) ⌝ }
+{
+    if row.len() == 0 {
+        add_outside(out, weights);
+        return;
+    }
+    add_kernel_row(out, row, weights, begin, stride, dilation, q);
+}
+
+fn row_limits(
+    begin: usize,
+    stride: usize,
+    dilation: usize,
+    q: usize,
+    len: usize,
+    taps: usize,
+    n: usize,
+) -> bool
+    ensures { λ r. ⌜ r ≡ rowLimits begin stride dilation q len taps n ⌝ }
+{
+    (1 <= stride)
+        & (stride <= 16)
+        & (begin <= 1024)
+        & (dilation <= 16)
+        & (q <= 1040)
+        & (len <= 4096)
+        & (taps <= 64)
+        & (n <= 66544)
+}
+
+// The taps of a kernel row over a row of the input, which is empty outside the input, more for each of some outputs of a row. The first tap of the first output
+// lies at column q, counted from the start of the padding. Beyond document 01's limits no tap is added.
+pub fn add_across(
+    out: &mut [f32],
+    row: &[f32],
+    weights: &[f32],
+    begin: usize,
+    stride: usize,
+    dilation: usize,
+    q: usize,
+)
+    ensures { λ _. ⌜ Summed (paddedTaps (now (row .entry)) (now (weights .entry)) begin stride dilation q) (added (rowLimits begin stride dilation q (length (now (row .entry))) (length (now (weights .entry))) (length (now (out .entry)))) (length (now (weights .entry)))) (length (now (out .entry))) (now (out .entry)) (now (out .exit)) ⌝ }
+{
+    if !row_limits(
+        begin,
+        stride,
+        dilation,
+        q,
+        row.len(),
+        weights.len(),
+        out.len(),
+    ) {
+        return;
+    }
+    add_row(out, row, weights, begin, stride, dilation, q);
+}
