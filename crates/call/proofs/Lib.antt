@@ -1,3 +1,4 @@
 pub mod Checked
 pub mod Outcome
 pub mod Products
+pub mod Lines

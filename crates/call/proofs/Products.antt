@@ -1,13 +1,16 @@
 -- Numbers of an accepted shape, for either convolution: products of its sizes, the position of an output number, the parts of a tap number.
 use mathlib.Core.Path.{_≡_}
+use mathlib.Core.List.{List}
 use Prim.Native.Nat.{ℕ, _+_, _*_, _/_, _%_, _≤_, _<_}
 use native.Mathlib.Nat.{mul-pos, mul-comm, le-mul-of-pos-right}
 use native.Mathlib.Omega.{arith}
+use lib.ListN.{length}
+use lib.Ieee.{Float}
 use Rattle.shape.specs.Facts.{Grouped}
 use Rattle.shape.specs.declared.Shape.{Shape}
 use Rattle.tensor.specs.Places.{positionOf, Inside}
 use Rattle.tensor.proofs.Places.{place-div, place-mod, div-within, mod-within, position-inside}
-use Rattle.call.specs.Fitting.{rows}
+use Rattle.call.specs.Fitting.{rows, Fitting}
 
 -- a part of a product is at most the product
 prefix : {m : ℕ} (n : ℕ) → 1 ≤ m → n ≤ n * m
@@ -21,6 +24,7 @@ pub record Products (s : Shape) : Type 0 where
   pub planes-lines : s .n * s .c ≤ s .n * s .c * s .y .input
   pub lines-inputs : s .n * s .c * s .y .input ≤ s .inputs
   pub rows-taps : rows s ≤ s .taps
+  pub weights-1 : 1 ≤ s .weights
 
 pub products : (s : Shape) → Grouped s → Products s
 products s h =
@@ -37,6 +41,7 @@ products s h =
       planes-lines = p1;
       lines-inputs = omega (arith, f .inputs-is);
       rows-taps = omega (arith, h .taps-is, prefix (rows s) (f .x .kernel-1));
+      weights-1 = rw (h .weights-by-input) (mul-pos (mul-pos (mul-pos (f .c-1) (h .o-1)) (f .y .kernel-1)) (f .x .kernel-1));
     }
 
 -- the position of output number j lies in the output
@@ -69,3 +74,7 @@ tap-parts s i {ky} hy hx =
       ky-is = rw (place-div (i * s .y .kernel + ky) hx) (place-mod i hy);
       kx-is = place-mod (i * s .y .kernel + ky) hx;
     }
+
+-- the kernel has a first weight
+pub kernel-pos : (s : Shape) (input kernel : List Float) → Fitting s input kernel → 0 < length kernel
+kernel-pos s input kernel h = omega (arith, products s (h .shape) .weights-1, h .kernel-length)

@@ -6,6 +6,7 @@ use lib.ListN.{length}
 use lib.Ieee.{Float}
 use Rattle.shape.specs.declared.Shape.{Shape}
 use Rattle.shape.specs.Facts.{Grouped}
+use Rattle.sums.specs.Finite.{AllFinite}
 
 -- kernel rows of one output
 abbrev pub rows : Shape → ℕ
@@ -15,3 +16,4 @@ pub record Fitting (s : Shape) (input kernel : List Float) : Type 0 where
   pub shape : Grouped s
   pub input-length : length input ≡ s .inputs
   pub kernel-length : length kernel ≡ s .weights
+  pub kernel-finite : AllFinite kernel

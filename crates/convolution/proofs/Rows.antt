@@ -1,78 +1,33 @@
--- An output's taps by kernel rows: what `add_row` adds is what the definition adds.
+-- An output's taps by kernel rows: what `add_row` adds, and `add_row_across` for each output of a row, is what the definition adds.
 use mathlib.Core.Path.{_≡_, refl, sym, ap, _∙_}
 use mathlib.Core.List.{List, []}
 use mathlib.Core.Bool.{Bool, true, false, _&&_, cond}
-use Prim.Native.Nat.{ℕ, _+_, _-_, _*_, _/_, _%_, _≤_, _<_, min}
-use native.Mathlib.Nat.{mul-one, add-assoc, add-sub-cancel-left, le-refl, le-trans, add-lt-add-of-le-of-lt}
+use Prim.Native.Nat.{ℕ, _+_, _-_, _*_, _/_, _%_, _≤_, _<_, zero-le}
+use native.Mathlib.Nat.{add-assoc, add-sub-cancel-left, le-refl, le-trans, add-lt-add-of-le-of-lt}
 use native.Mathlib.Omega.{arith}
-use borrow.Author.Tests.{ltb-true, leb-true, eqb-true, le-leb, lt-ltb}
-use lib.Dec.{leb, ltb, eqb, leb·suc-zero}
-use lib.ListN.{length, take, drop}
+use borrow.Author.Tests.{ltb-true}
+use lib.Dec.{leb, ltb}
+use lib.ListN.{length, take, drop, length-take}
 use lib.Ieee.{Float}
-use Rattle.layer.proofs.Tests.{and-both}
 use Rattle.sizes.specs.Taps.{inside}
 use Rattle.shape.specs.declared.Shape.{Shape}
 use Rattle.shape.specs.Facts.{Grouped}
 use Rattle.tensor.specs.Table.{read, plusZero}
 use Rattle.tensor.proofs.Table.{part-length, part-read}
 use Rattle.tensor.proofs.Places.{part-within, place-div, place-mod}
-use Rattle.sums.specs.Taps.{pair, outside, at, tapAt, sumFrom, tapsOf, outputOf, rowTaps}
+use Rattle.sums.specs.Taps.{Place, pair, outside, at, tapAt, sumFrom, tapsOf, outputOf}
 use Rattle.sums.proofs.Sums.{sum-same}
+use Rattle.rows.specs.Rows.{Summed}
+use Rattle.rows.proofs.Rows.{summed-same}
+use Rattle.padded.specs.Padded.{columnValue, paddedTaps}
+use Rattle.padded.proofs.Values.{row-value, empty-value}
 use Rattle.call.specs.Fitting.{rows}
+use Rattle.tensor.proofs.Lines.{line-start}
 use Rattle.convolution.specs.Convolution.{placeOf}
-use Rattle.convolution.specs.Rows.{firstTapOf, paddedPlace, placeFrom, columnValue, rowPart}
+use Rattle.convolution.specs.Rows.{firstTapOf, paddedPlace, placeFrom, rowPart, atColumn}
 use Rattle.convolution.specs.declared.FirstTap.{FirstTap}
 use Rattle.convolution.proofs.Places.{place-from-first}
 use Rattle.convolution.proofs.Bounds.{RowBounds}
-
--- the column test on a whole row
-row-value : (l : List Float) (start n begin q : ℕ) → start + n ≤ length l → columnValue (take n (drop start l)) begin q ≡ cond (inside begin n q) (read l (start + (q - begin))) plusZero
-unfolding columnValue
-row-value l start n begin q h = rw (part-length l start n h) (go (leb begin q) (ltb (q - begin) n) refl)
-  where
-    go : (a b : Bool) → ltb (q - begin) n ≡ b → cond (a && b) (read (take n (drop start l)) (q - begin)) plusZero ≡ cond (a && b) (read l (start + (q - begin))) plusZero
-    go true true e = part-read l start n (q - begin) (ltb-true _ _ e)
-    go true false e = refl
-    go false true e = refl
-    go false false e = refl
-
--- outside the input the row is empty, and each of its columns +0
-empty-value : (begin q : ℕ) → columnValue [] begin q ≡ plusZero
-unfolding columnValue
-empty-value begin q = rw leb·suc-zero (go (leb begin q))
-  where
-    go : (a : Bool) → cond (a && false) (read [] (q - begin)) plusZero ≡ plusZero
-    go true = refl
-    go false = refl
-
--- taps that follow one another, from `first` on, and all lie inside a row of this length
-pub record RowInside (dilation begin first taps len : ℕ) : Type 0 where
-  pub step : dilation ≡ 1
-  pub start : begin ≤ first
-  pub end : first + taps ≤ begin + len
-
-pub row-inside : (dilation begin first taps len : ℕ) → eqb dilation 1 && leb begin first && leb (first + taps) (begin + len) ≡ true → RowInside dilation begin first taps len
-row-inside dilation begin first taps len e =
-    let u = and-both (eqb dilation 1 && leb begin first) (leb (first + taps) (begin + len)) e in
-    let v = and-both (eqb dilation 1) (leb begin first) (u .0) in
-    record { step = eqb-true dilation 1 (v .0); start = leb-true begin first (v .1); end = leb-true _ _ (u .1) }
-
--- one of them has the element of the row's part
-inside-value : (row : List Float) (begin first n k : ℕ) → begin ≤ first → first + n ≤ begin + length row → k < n → read (take n (drop (first - begin) row)) k ≡ columnValue row begin (first + k)
-unfolding columnValue
-inside-value row begin first n k h l m =
-    let e : first + k - begin ≡ first - begin + k = omega arith in
-    rw (e, le-leb begin (first + k) (omega arith), lt-ltb (first - begin + k) (length row) (omega arith)) (part-read row (first - begin) n k m)
-
--- so their sum is that of the row's part
-pub inside-sum : (sum : Float) (row weights : List Float) (dilation begin first : ℕ) → RowInside dilation begin first (length weights) (length row)
-    → let part = take (first + length weights - begin - (first - begin)) (drop (first - begin) row) in sumFrom sum (rowTaps part weights) (min (length part) (length weights))
-    ≡ sumFrom sum (λ k. pair (columnValue row begin (first + k * dilation)) (read weights k)) (length weights)
-inside-sum sum row weights dilation begin first h =
-    let n : first + length weights - begin - (first - begin) ≡ length weights = omega (arith, h .start) in
-    let m : min (length weights) (length weights) ≡ length weights = omega arith in
-    rw (h .step, n, part-length row (first - begin) (length weights) (omega (arith, h .start, h .end)), m)
-    (sum-same _ _ _ _ (λ k l. rw (mul-one k) (ap (λ (v : Float). pair v (read weights k)) (inside-value row begin first (length weights) k (h .start) (h .end) l))))
 
 -- a tap by what its test says
 tap-value : (input kernel : List Float) (a b : ℕ) (t : Bool) → pair (cond t (read input a) plusZero) (read kernel b) ≡ tapAt input kernel (cond t (at a b) (outside b))
@@ -94,22 +49,41 @@ tap-by-row s input kernel plane p q b h =
     go true true e =
         row-value input start (s .x .input) (s .x .begin) q
         (le-trans (part-within (s .x .input) (add-lt-add-of-le-of-lt (le-refl (plane * s .y .input)) (ltb-true _ _ e))) h)
-    go true false e = empty-value _ _
-    go false true e = empty-value _ _
-    go false false e = empty-value _ _
+    go true false e = empty-value [] _ _ refl
+    go false true e = empty-value [] _ _ refl
+    go false false e = empty-value [] _ _ refl
 
 -- one kernel row, of which the parts of the two tensors are at hand
-pub row-taps : (s : Shape) (input kernel : List Float) (f : FirstTap) (r : ℕ) (sum : Float) (row weights : List Float)
-    → row ≡ rowPart input (f .plane + r / s .y .kernel) (s .y .begin) (s .y .input) (s .x .input) (f .row + r % s .y .kernel * s .y .dilation)
-    → weights ≡ take (f .weight + r * s .x .kernel + s .x .kernel - (f .weight + r * s .x .kernel)) (drop (f .weight + r * s .x .kernel) kernel)
+abbrev pub valuesOf : Shape → List Float → FirstTap → ℕ → List Float
+valuesOf s input f r = rowPart input (f .plane + r / s .y .kernel) (s .y .begin) (s .y .input) (s .x .input) (f .row + r % s .y .kernel * s .y .dilation)
+
+abbrev pub weightsOf : Shape → List Float → FirstTap → ℕ → List Float
+weightsOf s kernel f r = let start = f .weight + r * s .x .kernel in take (start + s .x .kernel - start) (drop start kernel)
+
+module _ (s : Shape) (input kernel : List Float) (f : FirstTap) (r : ℕ) (row weights : List Float) (er : row ≡ valuesOf s input f r) (ew : weights ≡ weightsOf s kernel f r) (b : RowBounds s f r (length input) (length kernel)) where
+  pub row-weights : length weights ≡ s .x .kernel
+  row-weights = rw (ew, add-sub-cancel-left (f .weight + r * s .x .kernel) (s .x .kernel)) (part-length kernel (f .weight + r * s .x .kernel) (s .x .kernel) (omega arith))
+
+  -- a tap of it, for an output at any column
+  row-tap : (column k : ℕ) → k < s .x .kernel
+      → pair (columnValue row (s .x .begin) (column + k * s .x .dilation)) (read weights k) ≡ tapAt input kernel (placeFrom s (atColumn f column) (r * s .x .kernel + k))
+  unfolding placeFrom
+  row-tap column k l =
+      rw (er, ew, add-sub-cancel-left (f .weight + r * s .x .kernel) (s .x .kernel), place-div r l, place-mod r l, part-read kernel (f .weight + r * s .x .kernel) (s .x .kernel) k l, add-assoc (f .weight) (r * s .x .kernel) k)
+      (tap-by-row s input kernel _ _ _ _ (b .plane-end))
+
+  -- its taps, for each of some outputs of a row: that of the first lies at column q
+  pub line-taps : (q : ℕ) {n : ℕ} {l o : List Float} → Summed (paddedTaps row weights (s .x .begin) (s .x .stride) (s .x .dilation) q) (length weights) n l o
+      → Summed (λ x k. tapAt input kernel (placeFrom s (atColumn f (q + x * s .x .stride)) (r * s .x .kernel + k))) (s .x .kernel) n l o
+  line-taps q i = summed-same (rw row-weights at i) (λ x k u v. row-tap (q + x * s .x .stride) k v)
+
+-- its taps, for one output
+pub row-taps : (s : Shape) (input kernel : List Float) (f : FirstTap) (r : ℕ) (sum : Float) (row weights : List Float) → row ≡ valuesOf s input f r → weights ≡ weightsOf s kernel f r
     → RowBounds s f r (length input) (length kernel)
     → sumFrom sum (λ k. pair (columnValue row (s .x .begin) (f .column + k * s .x .dilation)) (read weights k)) (length weights)
     ≡ sumFrom sum (λ k. tapAt input kernel (placeFrom s f (r * s .x .kernel + k))) (s .x .kernel)
-unfolding placeFrom
 row-taps s input kernel f r sum row weights er ew b =
-    rw (ew, add-sub-cancel-left (f .weight + r * s .x .kernel) (s .x .kernel), part-length kernel (f .weight + r * s .x .kernel) (s .x .kernel) (omega arith))
-    (sum-same _ _ _ _ (λ k l. rw (er, place-div r l, place-mod r l, part-read kernel (f .weight + r * s .x .kernel) (s .x .kernel) k l, add-assoc (f .weight) (r * s .x .kernel) k)
-    (tap-by-row s input kernel _ _ _ _ (b .plane-end))))
+    rw (row-weights s input kernel f r row weights er ew b) (sum-same _ _ _ _ (λ k l. row-tap s input kernel f r row weights er ew b (f .column) k l))
 
 -- all kernel rows of output j
 pub output-rows : (s : Shape) (input kernel : List Float) (f : FirstTap) (j r : ℕ) → Grouped s → f ≡ firstTapOf s j → r ≡ rows s
@@ -119,3 +93,38 @@ output-rows s input kernel f j r h ef er =
     rw (ef, er)
     (sum-same _ _ _ _ (λ t l. ap (tapAt input kernel) (place-from-first s j t h))
     ∙ ap (sumFrom plusZero (tapsOf (placeOf s) input kernel j)) (sym (h .taps-is)))
+
+-- ---- a row of outputs
+
+-- output x of it has the first tap of the row's first output, moved
+line-tap : (s : Shape) (f : FirstTap) (line x : ℕ) → x < s .x .out → f ≡ firstTapOf s (line * s .x .out) → atColumn f (x * s .x .stride) ≡ firstTapOf s (line * s .x .out + x)
+line-tap s f line x h e = rw (e, line-start line {w = s .x .out} (omega arith), place-div line h, place-mod line h)
+
+-- so its places are those of the definition
+pub line-place : (s : Shape) (f : FirstTap) (line x t : ℕ) → Grouped s → x < s .x .out → f ≡ firstTapOf s (line * s .x .out) → placeFrom s (atColumn f (x * s .x .stride)) t ≡ placeOf s (line * s .x .out + x) t
+line-place s f line x t g h e = ap (λ (p : FirstTap). placeFrom s p t) (line-tap s f line x h e) ∙ place-from-first s (line * s .x .out + x) t g
+
+-- a tap before or after the input's columns
+outside-tap : (input kernel : List Float) (b : Bool) (p : Place) (w : ℕ) → tapAt input kernel (cond (b && false) p (outside w)) ≡ pair plusZero (read kernel w)
+unfolding tapAt
+outside-tap input kernel true p w = refl
+outside-tap input kernel false p w = refl
+
+padded-outside : (s : Shape) (input kernel : List Float) (plane p q w : ℕ) → inside (s .x .begin) (s .x .input) q ≡ false → tapAt input kernel (paddedPlace s plane p q w) ≡ pair plusZero (read kernel w)
+unfolding paddedPlace
+padded-outside s input kernel plane p q w e =
+    rw e (outside-tap input kernel (inside (s .y .begin) (s .y .input) p) (at ((plane * s .y .input + (p - s .y .begin)) * s .x .input + (q - s .x .begin)) w) w)
+
+pub column-outside : (s : Shape) (input kernel : List Float) (f : FirstTap) (c t : ℕ) → inside (s .x .begin) (s .x .input) (c + t % s .x .kernel * s .x .dilation) ≡ false
+    → tapAt input kernel (placeFrom s (atColumn f c) t) ≡ pair plusZero (read kernel (f .weight + t))
+unfolding placeFrom
+column-outside s input kernel f c t e = padded-outside s input kernel _ _ _ _ e
+
+-- a row of the input is at most its width long
+pub row-length : (input : List Float) (plane begin height width p : ℕ) {n : ℕ} → width ≤ n → length (rowPart input plane begin height width p) ≤ n
+unfolding rowPart
+row-length input plane begin height width p {n} h = go (inside begin height p)
+  where
+    go : (b : Bool) → length (cond b (take width (drop ((plane * height + (p - begin)) * width) input)) []) ≤ n
+    go true = rw (length-take width (drop ((plane * height + (p - begin)) * width) input)) (omega arith)
+    go false = zero-le

@@ -2,14 +2,13 @@
 use Prim.Native.Nat.{ℕ, _+_, _-_, _*_, _/_, _%_, _≤_}
 use mathlib.Core.Bool.{_&&_, cond}
 use mathlib.Core.List.{List, []}
-use lib.ListN.{length, take, drop}
+use lib.ListN.{take, drop}
 use lib.Ieee.{Float}
 use Rattle.sizes.specs.Taps.{inside}
 use Rattle.shape.specs.declared.Shape.{Shape}
 use Rattle.tensor.specs.declared.Position.{Position}
 use Rattle.tensor.specs.Places.{positionOf}
-use Rattle.tensor.specs.Table.{read, plusZero}
-use Rattle.sums.specs.Taps.{Place, outside, at}
+use Rattle.sums.specs.Taps.{Place, outside, at, Tap, tapAt}
 use Rattle.convolution.specs.Convolution.{groupOf}
 use Rattle.convolution.specs.declared.FirstTap.{FirstTap}
 
@@ -43,10 +42,6 @@ placeFrom s f t =
     (f .column + t % s .x .kernel * s .x .dilation)
     (f .weight + t)
 
--- the element of a row at column q, counted from the start of the padding: +0 outside the row
-unfoldable pub columnValue : List Float → ℕ → ℕ → Float
-columnValue row begin q = cond (inside begin (length row) q) (read row (q - begin)) plusZero
-
 -- the part of the input that is row p of a plane, counted from the start of the padding: empty outside the input
 unfoldable pub rowPart : List Float → ℕ → ℕ → ℕ → ℕ → ℕ → List Float
 rowPart input plane begin height width p =
@@ -58,3 +53,13 @@ pub record Within (s : Shape) (f : FirstTap) : Type 0 where
   pub weight : f .weight + s .taps ≤ s .weights
   pub row : f .row ≤ 1064704
   pub column : f .column ≤ 1064704
+
+-- ---- rows of outputs
+
+-- a first tap moved to another column
+abbrev pub atColumn : FirstTap → ℕ → FirstTap
+atColumn f column = record { plane = f .plane; weight = f .weight; row = f .row; column = column }
+
+-- all taps of output x of the row whose first output has this first tap
+abbrev pub lineTaps : Shape → List Float → List Float → FirstTap → ℕ → ℕ → Tap
+lineTaps s input kernel f x t = tapAt input kernel (placeFrom s (atColumn f (x * s .x .stride)) t)

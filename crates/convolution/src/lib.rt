@@ -4,20 +4,24 @@ use call::check_call;
 use layer::Answer;
 use layer::Layer;
 use layer::Op;
+use padded::add_across;
+use padded::add_outside;
+use padded::columns_before;
+use padded::kernel_row_sum;
+use rows::start;
 use shape::Shape;
-use sums::add_product;
-use sums::row_sum;
 use tensor::position_of;
 ghost use mathlib.Core.Path.{_≡_};
 ghost use Prim.Native.Nat.{_+_, _*_, _≤_, _<_};
 ghost use lib.ListN.{length};
 ghost use Rattle.shape.specs.Facts.{Grouped};
-ghost use Rattle.tensor.specs.Table.{read};
-ghost use Rattle.sums.specs.Taps.{pair, tapAt, sumFrom, outputOf, outputsOf};
+ghost use Rattle.tensor.specs.Table.{tabulate};
+ghost use Rattle.sums.specs.Taps.{tapAt, sumFrom, outputOf, outputsOf};
+ghost use Rattle.rows.specs.Rows.{Summed};
 ghost use Rattle.call.specs.Call.{answerOf, contentsOf, WholeOutputs, FiniteOutputs};
 ghost use Rattle.call.specs.Fitting.{rows, Fitting};
 ghost use Rattle.convolution.specs.Convolution.{placeOf};
-ghost use Rattle.convolution.specs.Rows.{firstTapOf, placeFrom, columnValue, rowPart, Within};
+ghost use Rattle.convolution.specs.Rows.{firstTapOf, placeFrom, rowPart, Within, atColumn, lineTaps};
 
 // The first tap of an output: its plane of the input, its weight, and its row and column, counted from the start of the padding.
 struct FirstTap {
@@ -27,62 +31,7 @@ struct FirstTap {
     column: usize,
 }
 
-// The element of a row at column q, counted from the start of the padding: +0 outside the row.
-fn column_value(row: &[f32], begin: usize, q: usize) -> f32
-    ensures { λ r. ⌜ r ≡ columnValue (now (row .entry)) begin q ⌝ }
-{
-    if q < begin {
-        return 0.0;
-    }
-    let at = q - begin;
-    if at < row.len() { row[at] } else { 0.0 }
-}
-
-// The sum so far, and then the taps of one kernel row, of which the first lies at this column.
-fn padded_row_sum(
-    sum: f32,
-    row: &[f32],
-    weights: &[f32],
-    first: usize,
-    dilation: usize,
-    begin: usize,
-) -> f32
-    requires { ⌜ (length (now weights) ≤ 64) × ((dilation ≤ 16) × (first ≤ 1064704)) ⌝ }
-    ensures { λ r. ⌜ r ≡ sumFrom sum (λ k. pair (columnValue (now (row .entry)) begin (first + k * dilation)) (read (now (weights .entry)) k)) (length (now (weights .entry))) ⌝ }
-{
-    let mut total = sum;
-    let mut k = 0;
-    while k < weights.len() {
-        total = add_product(
-            total,
-            column_value(row, begin, first + k * dilation),
-            weights[k],
-        );
-        k += 1;
-    }
-    total
-}
-
-// The same. Taps that follow one another and all lie inside the row are handed on as its part, without a test of each column.
-fn kernel_row_sum(
-    sum: f32,
-    row: &[f32],
-    weights: &[f32],
-    first: usize,
-    dilation: usize,
-    begin: usize,
-) -> f32
-    requires { ⌜ (length (now weights) ≤ 64) × ((dilation ≤ 16) × ((first ≤ 1064704) × (begin ≤ 1024))) ⌝ }
-    ensures { λ r. ⌜ r ≡ sumFrom sum (λ k. pair (columnValue (now (row .entry)) begin (first + k * dilation)) (read (now (weights .entry)) k)) (length (now (weights .entry))) ⌝ }
-{
-    let end = first + weights.len();
-    if (dilation == 1) & (begin <= first) & (end <= begin + row.len()) {
-        let from = first - begin;
-        let to = end - begin;
-        return row_sum(sum, &row[from..to], weights);
-    }
-    padded_row_sum(sum, row, weights, first, dilation, begin)
-}
+// ---- one output after another
 
 // The part of the input that is row p of a plane, counted from the start of the padding: empty outside the input.
 fn row_part(
@@ -167,8 +116,8 @@ fn output_sum(s: Shape, input: &[f32], kernel: &[f32], j: usize) -> f32
     sum
 }
 
-// Every output.
-fn fill(s: Shape, input: &[f32], kernel: &[f32], output: &mut [f32])
+// Every output, one after another.
+fn fill_each(s: Shape, input: &[f32], kernel: &[f32], output: &mut [f32])
     requires { ⌜ Fitting s (now input) (now kernel) ⌝ }
     requires { ⌜ length (now output) ≡ s .outputs ⌝ }
     ensures { λ _. ⌜ now (output .exit) ≡ outputsOf (placeOf s) (s .taps) (s .outputs) (now (input .entry)) (now (kernel .entry)) ⌝ }
@@ -178,6 +127,119 @@ fn fill(s: Shape, input: &[f32], kernel: &[f32], output: &mut [f32])
         output[j] = output_sum(s, input, kernel, j);
         j += 1;
     }
+}
+
+// ---- a row of outputs, side by side
+
+// The taps of kernel row r more for each of some outputs of the row whose first output has this first tap. That of the first of them lies at column q.
+fn add_row_across(
+    s: Shape,
+    input: &[f32],
+    kernel: &[f32],
+    f: FirstTap,
+    r: usize,
+    q: usize,
+    out: &mut [f32],
+)
+    requires { ⌜ Fitting s (now input) (now kernel) ⌝ }
+    requires { ⌜ Within s f ⌝ }
+    requires { ⌜ (r < rows s) × ((q ≤ 1040) × (length (now out) ≤ s .x .out)) ⌝ }
+    ensures { λ _. ⌜ Summed (λ x k. tapAt (now (input .entry)) (now (kernel .entry)) (placeFrom s (atColumn f (q + x * s .x .stride)) (r * s .x .kernel + k))) (s .x .kernel) (length (now (out .entry))) (now (out .entry)) (now (out .exit)) ⌝ }
+{
+    let height = s.y.kernel;
+    let taps = s.x.kernel;
+    let plane = f.plane + r / height;
+    let p = f.row + r % height * s.y.dilation;
+    let row = row_part(input, plane, s.y.begin, s.y.input, s.x.input, p);
+    let start = f.weight + r * taps;
+    let end = start + taps;
+    add_across(
+        out,
+        row,
+        &kernel[start..end],
+        s.x.begin,
+        s.x.stride,
+        s.x.dilation,
+        q,
+    );
+}
+
+// All taps of these outputs: kernel row by kernel row.
+fn add_rows(s: Shape, input: &[f32], kernel: &[f32], f: FirstTap, q: usize, out: &mut [f32])
+    requires { ⌜ Fitting s (now input) (now kernel) ⌝ }
+    requires { ⌜ Within s f ⌝ }
+    requires { ⌜ (q ≤ 1040) × (length (now out) ≤ s .x .out) ⌝ }
+    ensures { λ _. ⌜ Summed (λ x t. tapAt (now (input .entry)) (now (kernel .entry)) (placeFrom s (atColumn f (q + x * s .x .stride)) t)) (s .taps) (length (now (out .entry))) (now (out .entry)) (now (out .exit)) ⌝ }
+{
+    let rows = s.i * s.y.kernel;
+    let mut row = 0;
+    while row < rows {
+        add_row_across(s, input, kernel, f, row, q, out);
+        row += 1;
+    }
+}
+
+// All taps of each output of the row whose first output has this first tap. The outputs before lo and from hi on have every tap outside the input's columns.
+fn add_line(s: Shape, input: &[f32], kernel: &[f32], f: FirstTap, out: &mut [f32])
+    requires { ⌜ Fitting s (now input) (now kernel) ⌝ }
+    requires { ⌜ Within s f × (length (now out) ≡ s .x .out) ⌝ }
+    ensures { λ _. ⌜ Summed (lineTaps s (now (input .entry)) (now (kernel .entry)) f) (s .taps) (length (now (out .entry))) (now (out .entry)) (now (out .exit)) ⌝ }
+{
+    let n = out.len();
+    let stride = s.x.stride;
+    let last = (s.x.kernel - 1) * s.x.dilation;
+    let lo = columns_before(last, stride, s.x.begin, n);
+    let hi = columns_before(0, stride, s.x.begin + s.x.input, n);
+    let from = f.weight;
+    let to = from + s.taps;
+    let weights = &kernel[from..to];
+    add_outside(&mut out[0..lo], weights);
+    add_rows(s, input, kernel, f, lo * stride, &mut out[lo..hi]);
+    add_outside(&mut out[hi..n], weights);
+}
+
+// The outputs of one row, of number `line` among all rows.
+fn fill_line(s: Shape, input: &[f32], kernel: &[f32], line: usize, out: &mut [f32])
+    requires { ⌜ Fitting s (now input) (now kernel) ⌝ }
+    requires { ⌜ (line * s .x .out + s .x .out ≤ s .outputs) × (length (now out) ≡ s .x .out) ⌝ }
+    ensures { λ _. ⌜ now (out .exit) ≡ tabulate (λ x. outputOf (placeOf s) (s .taps) (now (input .entry)) (now (kernel .entry)) (line * s .x .out + x)) (s .x .out) ⌝ }
+{
+    start(out, kernel[0]);
+    let f = first_tap(s, line * s.x.out);
+    add_line(s, input, kernel, f, out);
+}
+
+// Every output, row by row.
+fn fill_lines(s: Shape, input: &[f32], kernel: &[f32], output: &mut [f32])
+    requires { ⌜ Fitting s (now input) (now kernel) ⌝ }
+    requires { ⌜ length (now output) ≡ s .outputs ⌝ }
+    ensures { λ _. ⌜ now (output .exit) ≡ outputsOf (placeOf s) (s .taps) (s .outputs) (now (input .entry)) (now (kernel .entry)) ⌝ }
+{
+    let width = s.x.out;
+    let mut line = 0;
+    let mut start = 0;
+    while start < output.len() {
+        let end = start + width;
+        fill_line(s, input, kernel, line, &mut output[start..end]);
+        line += 1;
+        start = end;
+    }
+}
+
+// Every output. A row is not worth its work where few of its outputs have every tap inside the input: a short row, shorter still with padding, or a kernel that is
+// longer than the row.
+fn fill(s: Shape, input: &[f32], kernel: &[f32], output: &mut [f32])
+    requires { ⌜ Fitting s (now input) (now kernel) ⌝ }
+    requires { ⌜ length (now output) ≡ s .outputs ⌝ }
+    ensures { λ _. ⌜ now (output .exit) ≡ outputsOf (placeOf s) (s .taps) (s .outputs) (now (input .entry)) (now (kernel .entry)) ⌝ }
+{
+    let n = s.x.out;
+    let k = s.x.kernel;
+    if (n < 4) | (n < k) | ((s.x.begin != 0) & (n < 8) & (n < k + 3)) {
+        fill_each(s, input, kernel, output);
+        return;
+    }
+    fill_lines(s, input, kernel, output);
 }
 
 // Convolution: checks 1 to 9, and only then every output. No call is asked to be valid: each is answered.
