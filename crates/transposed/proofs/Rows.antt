@@ -1,24 +1,23 @@
--- An output's taps by kernel rows: what `add_row` adds is what the definition adds.
-use mathlib.Core.Path.{_≡_, refl, sym, ap, _∙_}
+-- The taps of a row of outputs by kernel rows: what `add_row` adds is what the definition adds. Output x stands at column x + begin, counted from the start
+-- of the padding.
+use mathlib.Core.Path.{_≡_, refl}
 use mathlib.Core.List.{List}
 use Prim.Native.Nat.{ℕ, _+_, _*_, _/_, _%_, _≤_, _<_}
 use lib.ListN.{length}
 use lib.Ieee.{Float}
 use Rattle.shape.specs.declared.Shape.{Shape}
-use Rattle.shape.specs.Facts.{Grouped}
-use Rattle.tensor.specs.Table.{read, plusZero}
+use Rattle.tensor.specs.Table.{read}
 use Rattle.tensor.proofs.Table.{part-length, part-read}
 use Rattle.tensor.proofs.Places.{place-div, place-mod}
-use Rattle.sums.specs.Taps.{Place, at, none, pair, tapAt, sumFrom, tapsOf, outputOf}
-use Rattle.sums.proofs.Sums.{sum-same, sum-none}
-use Rattle.call.specs.Fitting.{rows}
+use Rattle.sums.specs.Taps.{Place, at, none, pair, tapAt}
+use Rattle.rows.specs.Rows.{Summed}
+use Rattle.rows.proofs.Rows.{summed-away, summed-same}
 use Rattle.transposed.specs.declared.FirstTap.{FirstTap}
 use Rattle.transposed.specs.declared.Reach.{Reach}
 use Rattle.transposed.specs.declared.Reach.the-variants.{At, Away}
-use Rattle.transposed.specs.Transposed.{reachOf, meet, placeOf}
-use Rattle.transposed.specs.Rows.{tapIn, rowTap, rowOf, firstTapOf, placeFrom}
+use Rattle.transposed.specs.Transposed.{reachOf, meet}
+use Rattle.transposed.specs.Rows.{tapIn, rowTap, rowOf, placeFrom}
 use Rattle.transposed.proofs.Reaching.{reach-within}
-use Rattle.transposed.proofs.Places.{place-from-first}
 use Rattle.transposed.proofs.Bounds.{RowBounds}
 
 pub row-of-length : (t : List Float) (row : ℕ) {width : ℕ} → row * width + width ≤ length t → length (rowOf t row width) ≡ width
@@ -41,32 +40,22 @@ unfolding meet tapAt
 tap-none input kernel (At x) f = refl
 tap-none input kernel Away f = refl
 
--- a kernel row that reaches no row of the input adds nothing
-pub row-away : (s : Shape) (input kernel : List Float) (f : FirstTap) (r : ℕ) (sum : Float)
+-- a kernel row that reaches no row of the input adds nothing to a row of outputs
+pub line-away : (s : Shape) (input kernel : List Float) (f : FirstTap) (r : ℕ) {n : ℕ} {l : List Float}
     → Away ≡ reachOf (s .y .input) (s .y .dilation) (s .y .stride) (f .row) (r % s .y .kernel)
-    → sum ≡ sumFrom sum (λ k. tapAt input kernel (placeFrom s f (r * s .x .kernel + k))) (s .x .kernel)
+    → Summed (λ x k. tapAt input kernel (placeFrom s f (x + s .x .begin) (r * s .x .kernel + k))) (s .x .kernel) n l l
 unfolding placeFrom
-row-away s input kernel f r sum e = sym (sum-none sum _ (s .x .kernel) (λ k l. rw (place-div r l, ← e) (tap-none input kernel _ _)))
+line-away s input kernel f r e = summed-away (λ x k h p. rw (place-div r p, ← e) (tap-none input kernel _ _))
 
 -- a kernel row that reaches row y of the input, of which the parts of the two tensors are at hand
-pub row-taps : (s : Shape) (input kernel : List Float) (f : FirstTap) (r y : ℕ) (sum : Float) (row weights : List Float)
+pub line-taps : (s : Shape) (input kernel : List Float) (f : FirstTap) (r y : ℕ) (row weights : List Float) {n : ℕ} {l m : List Float}
     → At y ≡ reachOf (s .y .input) (s .y .dilation) (s .y .stride) (f .row) (r % s .y .kernel)
     → row ≡ rowOf input ((f .plane + r / s .y .kernel) * s .y .input + y) (s .x .input)
     → weights ≡ rowOf kernel ((f .weight + r / s .y .kernel * s .o) * s .y .kernel + r % s .y .kernel) (s .x .kernel)
     → RowBounds s f r y (length input) (length kernel)
-    → sumFrom sum (rowTap row weights (f .column) (s .x .dilation) (s .x .stride)) (length weights)
-    ≡ sumFrom sum (λ k. tapAt input kernel (placeFrom s f (r * s .x .kernel + k))) (s .x .kernel)
+    → Summed (λ x k. rowTap row weights (x + s .x .begin) (s .x .dilation) (s .x .stride) k) (length weights) n l m
+    → Summed (λ x k. tapAt input kernel (placeFrom s f (x + s .x .begin) (r * s .x .kernel + k))) (s .x .kernel) n l m
 unfolding rowTap placeFrom
-row-taps s input kernel f r y sum row weights e er ew b =
-    rw (er, ew, row-of-length kernel _ (b .part))
-    (sum-same _ _ _ _ (λ k l. rw (place-div r l, place-mod r l, ← e, row-of-length input _ (b .row), row-of-read kernel _ _ k l)
-    (tap-one input kernel _ _ _ y _ _ (λ x ex. reach-within _ _ _ _ _ ex) (λ x. refl))))
-
--- all kernel rows of output j
-pub output-rows : (s : Shape) (input kernel : List Float) (f : FirstTap) (j r : ℕ) → Grouped s → f ≡ firstTapOf s j → r ≡ rows s
-    → sumFrom plusZero (λ t. tapAt input kernel (placeFrom s f t)) (r * s .x .kernel) ≡ outputOf (placeOf s) (s .taps) input kernel j
-unfolding outputOf
-output-rows s input kernel f j r h ef er =
-    rw (ef, er)
-    (sum-same _ _ _ _ (λ t l. ap (tapAt input kernel) (place-from-first s j t))
-    ∙ ap (sumFrom plusZero (tapsOf (placeOf s) input kernel j)) (sym (h .taps-is)))
+line-taps s input kernel f r y row weights e er ew b i =
+    summed-same (rw (er, ew, row-of-length kernel _ (b .part)) at i) (λ x k h l. rw (place-div r l, place-mod r l, ← e, row-of-length input _ (b .row), row-of-read kernel _ _ k l)
+    (tap-one input kernel _ _ _ y _ _ (λ x ex. reach-within _ _ _ _ _ ex) (λ x. refl)))

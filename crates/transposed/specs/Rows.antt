@@ -13,25 +13,24 @@ use Rattle.transposed.specs.declared.Reach.{Reach}
 use Rattle.transposed.specs.declared.Reach.the-variants.{At, Away}
 use Rattle.transposed.specs.Transposed.{reachOf, meet}
 
--- the first tap of the output at a position: its plane of the input and of the kernel, and the output's row and column counted from the start of the padding
+-- the first taps of the row of outputs at a position: their plane of the input and of the kernel, and the outputs' row counted from the start of the padding
 abbrev pub firstTapAt : Shape → Position → FirstTap
 firstTapAt s p =
     record {
       plane = p .image * s .c + p .channel / s .o * s .i;
       weight = p .channel / s .o * s .i * s .o + p .channel % s .o;
       row = p .row + s .y .begin;
-      column = p .column + s .x .begin;
     }
 
--- the first tap of output number j
+-- those of the row of output number j
 abbrev pub firstTapOf : Shape → ℕ → FirstTap
 firstTapOf s j = firstTapAt s (positionOf (s .g * s .o) (s .y .out) (s .x .out) j)
 
--- tap number t from a first tap on
-unfoldable pub placeFrom : Shape → FirstTap → ℕ → Place
-placeFrom s f t =
+-- tap number t from a first tap on, of the output at this column, counted from the start of the padding
+unfoldable pub placeFrom : Shape → FirstTap → ℕ → ℕ → Place
+placeFrom s f column t =
     meet (reachOf (s .y .input) (s .y .dilation) (s .y .stride) (f .row) (t / s .x .kernel % s .y .kernel))
-    (reachOf (s .x .input) (s .x .dilation) (s .x .stride) (f .column) (t % s .x .kernel))
+    (reachOf (s .x .input) (s .x .dilation) (s .x .stride) column (t % s .x .kernel))
     (λ y x. at
     (((f .plane + t / s .x .kernel / s .y .kernel) * s .y .input + y) * s .x .input + x)
     (((f .weight + t / s .x .kernel / s .y .kernel * s .o) * s .y .kernel + t / s .x .kernel % s .y .kernel) * s .x .kernel + t % s .x .kernel))
@@ -48,7 +47,7 @@ rowTap row weights p dilation stride k = tapIn (reachOf (length row) dilation st
 unfoldable pub rowOf : List Float → ℕ → ℕ → List Float
 rowOf t row width = take width (drop (row * width) t)
 
--- a first tap whose output lies in the tensors with all its taps
+-- first taps whose outputs lie in the tensors with all their taps
 pub record Within (s : Shape) (f : FirstTap) : Type 0 where
   pub plane : f .plane + s .i ≤ s .n * s .c
   pub weight : (i : ℕ) → i < s .i → f .weight + i * s .o < s .c * s .o

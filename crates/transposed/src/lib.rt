@@ -4,14 +4,19 @@ use call::check_call;
 use layer::Answer;
 use layer::Layer;
 use layer::Op;
+use rows::add_spread;
+use rows::start;
+use rows::steps;
 use shape::Shape;
-use sums::add_product;
+use sizes::minus;
 use tensor::position_of;
 ghost use mathlib.Core.Path.{_≡_};
 ghost use Prim.Native.Nat.{_+_, _*_, _≤_, _<_};
 ghost use lib.ListN.{length};
 ghost use Rattle.shape.specs.Facts.{Grouped};
-ghost use Rattle.sums.specs.Taps.{addTap, tapAt, sumFrom, outputOf, outputsOf};
+ghost use Rattle.tensor.specs.Table.{tabulate};
+ghost use Rattle.sums.specs.Taps.{tapAt, outputOf, outputsOf};
+ghost use Rattle.rows.specs.Rows.{Summed};
 ghost use Rattle.call.specs.Call.{answerOf, contentsOf, WholeOutputs, FiniteOutputs};
 ghost use Rattle.call.specs.Fitting.{rows, Fitting};
 ghost use Rattle.transposed.specs.Transposed.{reachOf, placeOf};
@@ -23,12 +28,11 @@ pub enum Reach {
     Away,
 }
 
-// The first tap of an output: its plane of the input and of the kernel, and the output's row and column, counted from the start of the padding.
+// The first taps of a row of outputs: their plane of the input and of the kernel, and the outputs' row, counted from the start of the padding.
 pub struct FirstTap {
     pub plane: usize,
     pub weight: usize,
     pub row: usize,
-    pub column: usize,
 }
 
 // The input position that tap k reaches from p, counted from the start of the padding.
@@ -53,44 +57,47 @@ fn reach_of(size: usize, dilation: usize, stride: usize, p: usize, k: usize) -> 
     }
 }
 
-// The sum so far, and then tap k of a kernel row, where it reaches the row of the input.
+// Tap k of a kernel row more for each output of a row that it reaches: these stand a stride apart, and the input's elements that it reaches follow one another.
 fn add_tap(
-    sum: f32,
+    out: &mut [f32],
     row: &[f32],
     weights: &[f32],
-    p: usize,
+    begin: usize,
     dilation: usize,
     stride: usize,
     k: usize,
-) -> f32
-    requires { ⌜ (length (now weights) ≤ 64) × ((dilation ≤ 16) × ((1 ≤ stride) × (k < length (now weights)))) ⌝ }
-    ensures { λ r. ⌜ r ≡ addTap sum (rowTap (now (row .entry)) (now (weights .entry)) p dilation stride k) ⌝ }
+)
+    requires { ⌜ (1 ≤ stride) × ((stride ≤ 16) × ((dilation ≤ 16) × (begin ≤ 1024))) ⌝ }
+    requires { ⌜ (length (now weights) ≤ 64) × (k < length (now weights)) ⌝ }
+    ensures { λ _. ⌜ Summed (λ x j. rowTap (now (row .entry)) (now (weights .entry)) (x + begin) dilation stride (k + j)) 1 (length (now (out .entry))) (now (out .entry)) (now (out .exit)) ⌝ }
 {
-    match reach_of(row.len(), dilation, stride, p, k) {
-        Reach::At(x) => add_product(sum, row[x], weights[k]),
-        Reach::Away => sum,
+    let back = k * dilation;
+    let first = steps(minus(begin, back), stride);
+    let lo = first * stride + back - begin;
+    if (row.len() <= first) | (out.len() <= lo) {
+        return;
     }
+    add_spread(&mut out[lo..], &row[first..], stride, weights[k]);
 }
 
-// The sum so far, and then the taps of one kernel row.
-fn kernel_row_sum(
-    sum: f32,
+// The taps of one kernel row, for each output of a row.
+fn add_taps(
+    out: &mut [f32],
     row: &[f32],
     weights: &[f32],
-    p: usize,
+    begin: usize,
     dilation: usize,
     stride: usize,
-) -> f32
-    requires { ⌜ (length (now weights) ≤ 64) × ((dilation ≤ 16) × (1 ≤ stride)) ⌝ }
-    ensures { λ r. ⌜ r ≡ sumFrom sum (rowTap (now (row .entry)) (now (weights .entry)) p dilation stride) (length (now (weights .entry))) ⌝ }
+)
+    requires { ⌜ (1 ≤ stride) × ((stride ≤ 16) × ((dilation ≤ 16) × (begin ≤ 1024))) ⌝ }
+    requires { ⌜ length (now weights) ≤ 64 ⌝ }
+    ensures { λ _. ⌜ Summed (λ x k. rowTap (now (row .entry)) (now (weights .entry)) (x + begin) dilation stride k) (length (now (weights .entry))) (length (now (out .entry))) (now (out .entry)) (now (out .exit)) ⌝ }
 {
-    let mut total = sum;
     let mut k = 0;
     while k < weights.len() {
-        total = add_tap(total, row, weights, p, dilation, stride, k);
+        add_tap(out, row, weights, begin, dilation, stride, k);
         k += 1;
     }
-    total
 }
 
 // The part of a tensor that is its row number `row`, the rows having `width` elements.
@@ -103,7 +110,7 @@ fn row_of(t: &[f32], row: usize, width: usize) -> &[f32]
     &t[start..end]
 }
 
-// The first tap of output number j.
+// The first taps of the row of outputs that begins with output number j.
 fn first_tap(s: Shape, j: usize) -> FirstTap
     requires { ⌜ Grouped s ⌝ }
     requires { ⌜ j < s .outputs ⌝ }
@@ -116,58 +123,59 @@ fn first_tap(s: Shape, j: usize) -> FirstTap
         plane: p.image * s.c + first,
         weight: first * s.o + p.channel % s.o,
         row: p.row + s.y.begin,
-        column: p.column + s.x.begin,
     }
 }
 
-// The sum so far, and then the taps of kernel row r of the output with this first tap.
-fn add_row(s: Shape, input: &[f32], kernel: &[f32], f: FirstTap, r: usize, sum: f32) -> f32
+// The taps of kernel row r more for each output of the row with these first taps.
+fn add_row(s: Shape, input: &[f32], kernel: &[f32], f: FirstTap, r: usize, out: &mut [f32])
     requires { ⌜ Fitting s (now input) (now kernel) ⌝ }
     requires { ⌜ Within s f ⌝ }
-    requires { ⌜ r < rows s ⌝ }
-    ensures { λ v. ⌜ v ≡ sumFrom sum (λ k. tapAt (now (input .entry)) (now (kernel .entry)) (placeFrom s f (r * s .x .kernel + k))) (s .x .kernel) ⌝ }
+    requires { ⌜ (r < rows s) × (length (now out) ≡ s .x .out) ⌝ }
+    ensures { λ _. ⌜ Summed (λ x k. tapAt (now (input .entry)) (now (kernel .entry)) (placeFrom s f (x + s .x .begin) (r * s .x .kernel + k))) (s .x .kernel) (s .x .out) (now (out .entry)) (now (out .exit)) ⌝ }
 {
     let height = s.y.kernel;
     let lines = s.y.input;
     let i = r / height;
     let ky = r % height;
-    match reach_of(lines, s.y.dilation, s.y.stride, f.row, ky) {
-        Reach::At(y) => {
-            let row = row_of(input, (f.plane + i) * lines + y, s.x.input);
-            let weights = row_of(kernel, (f.weight + i * s.o) * height + ky, s.x.kernel);
-            kernel_row_sum(sum, row, weights, f.column, s.x.dilation, s.x.stride)
-        }
-        Reach::Away => sum,
-    }
+    let reach = reach_of(lines, s.y.dilation, s.y.stride, f.row, ky);
+    let Reach::At(y) = reach else {
+        return;
+    };
+    let row = row_of(input, (f.plane + i) * lines + y, s.x.input);
+    let weights = row_of(kernel, (f.weight + i * s.o) * height + ky, s.x.kernel);
+    add_taps(out, row, weights, s.x.begin, s.x.dilation, s.x.stride);
 }
 
-// Output number j: kernel row by kernel row.
-fn output_sum(s: Shape, input: &[f32], kernel: &[f32], j: usize) -> f32
+// The outputs of one row, of number `line` among all rows: kernel row by kernel row.
+fn fill_line(s: Shape, input: &[f32], kernel: &[f32], line: usize, out: &mut [f32])
     requires { ⌜ Fitting s (now input) (now kernel) ⌝ }
-    requires { ⌜ j < s .outputs ⌝ }
-    ensures { λ v. ⌜ v ≡ outputOf (placeOf s) (s .taps) (now (input .entry)) (now (kernel .entry)) j ⌝ }
+    requires { ⌜ (line * s .x .out + s .x .out ≤ s .outputs) × (length (now out) ≡ s .x .out) ⌝ }
+    ensures { λ _. ⌜ now (out .exit) ≡ tabulate (λ x. outputOf (placeOf s) (s .taps) (now (input .entry)) (now (kernel .entry)) (line * s .x .out + x)) (s .x .out) ⌝ }
 {
-    let f = first_tap(s, j);
+    start(out, kernel[0]);
+    let f = first_tap(s, line * s.x.out);
     let rows = s.i * s.y.kernel;
-    let mut sum = 0.0;
     let mut r = 0;
     while r < rows {
-        sum = add_row(s, input, kernel, f, r, sum);
+        add_row(s, input, kernel, f, r, out);
         r += 1;
     }
-    sum
 }
 
-// Every output.
+// Every output, row by row.
 fn fill(s: Shape, input: &[f32], kernel: &[f32], output: &mut [f32])
     requires { ⌜ Fitting s (now input) (now kernel) ⌝ }
     requires { ⌜ length (now output) ≡ s .outputs ⌝ }
     ensures { λ _. ⌜ now (output .exit) ≡ outputsOf (placeOf s) (s .taps) (s .outputs) (now (input .entry)) (now (kernel .entry)) ⌝ }
 {
+    let width = s.x.out;
+    let mut line = 0;
     let mut j = 0;
     while j < output.len() {
-        output[j] = output_sum(s, input, kernel, j);
-        j += 1;
+        let end = j + width;
+        fill_line(s, input, kernel, line, &mut output[j..end]);
+        line += 1;
+        j = end;
     }
 }
 
