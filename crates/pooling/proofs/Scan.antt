@@ -2,8 +2,8 @@
 use mathlib.Core.Path.{_≡_, refl, sym, ap, _∙_, subst}
 use mathlib.Core.Bool.{Bool, true, false}
 use mathlib.Core.List.{List, [], _∷_, _++_}
-use Prim.Native.Nat.{ℕ, zero, suc, _+_, _-_, _*_, _≤_, _<_}
-use native.Mathlib.Nat.{add-sub-cancel-left}
+use Prim.Native.Nat.{ℕ, zero, suc, _+_, _-_, _*_, _/_, _%_, _≤_, _<_}
+use native.Mathlib.Nat.{add-sub-cancel-left, div-add-mod'}
 use native.Mathlib.Numerals.{add-one}
 use native.Mathlib.Omega.{arith}
 use lib.Dec.{leb, ltb}
@@ -13,13 +13,17 @@ use borrow.Author.Tests.{ltb-true}
 use Rattle.layer.proofs.Tests.{and-both}
 use Rattle.sizes.specs.declared.Span.{Span}
 use Rattle.sizes.specs.Taps.{tapPosition, tapInside, anyBelow}
+use Rattle.shape.specs.declared.Shape.{Shape}
 use Rattle.tensor.specs.declared.Window.{Window}
+use Rattle.tensor.specs.declared.Window.the-variants.{Empty}
 use Rattle.tensor.specs.Window.{bestOf, betterOf, All}
 use Rattle.tensor.proofs.Table.{part-read}
+use Rattle.tensor.proofs.Places.{place-div, place-mod}
 use Rattle.tensor.proofs.Largest.{all-append, best-append}
 use Rattle.pooling.specs.declared.Tap.{Tap}
 use Rattle.pooling.specs.declared.Tap.the-variants.{Outside, At}
 use Rattle.pooling.specs.Taps.{pickTap, tapOf, atTap, overTaps}
+use Rattle.pooling.specs.Windows.{windowOf}
 use Rattle.pooling.specs.Steps.{afterTap, afterTaps, columnStep, linePlaces, rowStep, planeWindow}
 
 pick-at : (b : Bool) (x c : ℕ) → pickTap b (At x) Outside ≡ At c → (b ≡ true) × (x ≡ c)
@@ -112,3 +116,9 @@ pub plane-window : (xs : List Float) (first : ℕ) (y x : Span) (p q : ℕ) (w :
     → afterTaps y p (rowStep xs first x q) (y .kernel) w ≡ planeWindow xs first y x p q w
 unfolding planeWindow
 plane-window xs first y x p q w = scan-places y p xs (rowStep xs first x q) (λ r. linePlaces x q (first + r)) (λ c u h. refl) (y .kernel) w
+
+-- the window at column q of row number `line` of the output, in that row's plane, is the window of the output there
+pub line-window : (xs : List Float) (s : Shape) (line q : ℕ) → q < s .x .out
+    → planeWindow xs (line / s .y .out * s .y .input) (s .y) (s .x) (line % s .y .out) q Empty ≡ windowOf xs s (line * s .x .out + q)
+unfolding planeWindow windowOf
+line-window xs s line q h = rw (place-div line h, place-mod line h, div-add-mod' (line / s .y .out) (s .c))

@@ -10,12 +10,12 @@ use tensor::Elements;
 use tensor::Window;
 use tensor::better;
 use tensor::check_elements;
-use tensor::position_of;
 ghost use Prim.Native.Nat.{_+_, _*_, _≤_, _<_, _^_};
 ghost use mathlib.Core.Path.{_≡_};
 ghost use lib.ListN.{length};
 ghost use Rattle.sizes.specs.Bounds.{SpanLimits};
 ghost use Rattle.shape.specs.Facts.{Sound};
+ghost use Rattle.tensor.specs.Table.{tabulate};
 ghost use Rattle.pooling.specs.Taps.{tapOf};
 ghost use Rattle.pooling.specs.Windows.{windowOf};
 ghost use Rattle.pooling.specs.Index.{dimensionsBefore, modulus};
@@ -123,18 +123,6 @@ fn scan_window(input: &[f32], first: usize, y: Span, x: Span, p: usize, q: usize
     best
 }
 
-// The window of the output at flat place o.
-fn window_at(s: Shape, input: &[f32], o: usize) -> Window
-    requires { ⌜ Sound (s .c) s ⌝ }
-    requires { ⌜ (length (now input) ≡ s .inputs) × (o < s .outputs) ⌝ }
-    ensures { λ r. ⌜ r ≡ windowOf (now (input .entry)) s o ⌝ }
-{
-    let at = position_of(s.c, s.y.out, s.x.out, o);
-    let plane = at.image * s.c + at.channel;
-    let first = plane * s.y.input;
-    scan_window(input, first, s.y, s.x, at.row, at.column)
-}
-
 // ---- value and index
 
 // A window's value; no window of an accepted call is empty.
@@ -209,7 +197,37 @@ fn modulus_of(s: Shape, axes: u32, axis: i32) -> usize
 
 // ---- the call
 
-// Writes the value and the index of every output.
+// Writes the value and the index of each output of one row, of number `line` among all rows.
+fn fill_line(
+    s: Shape,
+    modulus: usize,
+    input: &[f32],
+    line: usize,
+    values: &mut [f32],
+    indices: &mut [i64],
+)
+    requires { ⌜ Sound (s .c) s ⌝ }
+    requires { ⌜ (1 ≤ modulus) × (modulus ≤ 16777216) ⌝ }
+    requires { ⌜ (length (now input) ≡ s .inputs) × (line * s .x .out + s .x .out ≤ s .outputs) ⌝ }
+    requires { ⌜ (length (now values) ≡ s .x .out) × (length (now indices) ≡ s .x .out) ⌝ }
+    ensures { λ _. ⌜ now (values .exit) ≡ tabulate (λ q. valueOf (windowOf (now (input .entry)) s (line * s .x .out + q))) (s .x .out) ⌝ }
+    ensures { λ _. ⌜ now (indices .exit) ≡ tabulate (λ q. indexOf modulus (windowOf (now (input .entry)) s (line * s .x .out + q))) (s .x .out) ⌝ }
+{
+    let height = s.y.out;
+    let first = line / height * s.y.input;
+    let p = line % height;
+    let mut q = 0usize;
+    let n = values.len();
+    while q < n {
+        let w = scan_window(input, first, s.y, s.x, p, q);
+        values[q] = value_of(w);
+        let index = index_of(modulus, w);
+        indices[q] = index;
+        q += 1;
+    }
+}
+
+// Writes the value and the index of every output, row by row.
 fn fill(s: Shape, modulus: usize, input: &[f32], values: &mut [f32], indices: &mut [i64])
     requires { ⌜ Sound (s .c) s ⌝ }
     requires { ⌜ (1 ≤ modulus) × (modulus ≤ 16777216) ⌝ }
@@ -217,14 +235,22 @@ fn fill(s: Shape, modulus: usize, input: &[f32], values: &mut [f32], indices: &m
     ensures { λ _. ⌜ now (values .exit) ≡ pooledValues (now (input .entry)) s ⌝ }
     ensures { λ _. ⌜ now (indices .exit) ≡ pooledIndices (now (input .entry)) s modulus ⌝ }
 {
-    let mut o = 0usize;
+    let width = s.x.out;
+    let mut line = 0usize;
+    let mut j = 0usize;
     let n = values.len();
-    while o < n {
-        let w = window_at(s, input, o);
-        values[o] = value_of(w);
-        let index = index_of(modulus, w);
-        indices[o] = index;
-        o += 1;
+    while j < n {
+        let end = j + width;
+        fill_line(
+            s,
+            modulus,
+            input,
+            line,
+            &mut values[j..end],
+            &mut indices[j..end],
+        );
+        line += 1;
+        j = end;
     }
 }
 
