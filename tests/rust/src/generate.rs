@@ -30,8 +30,7 @@ impl Random {
     }
 }
 
-fn axis(r: &mut Random, op: Op, two: bool) -> Axis {
-    let largest = if two { 7 } else { 24 };
+fn axis(r: &mut Random, op: Op, largest: u64) -> Axis {
     let wide = r.chance(40);
     Axis {
         size: r.range(1, largest),
@@ -42,6 +41,28 @@ fn axis(r: &mut Random, op: Op, two: bool) -> Axis {
         end: r.range(0, 3),
         extra: if op == Op::Transposed { r.range(0, 3) } else { 0 },
     }
+}
+
+/// The X axis of a convolution with a row of 1 to 40 outputs: the row's length, stride and dilation first, then an input that gives them.
+fn row(r: &mut Random, op: Op, auto_pad: AutoPad) -> Axis {
+    let (out, kernel, stride, dilation) = (r.range(1, 40), r.range(1, 7), r.range(1, 4), r.range(1, 3));
+    let reach = (kernel - 1) * dilation + 1;
+    // No pads, some, or more than the kernel reaches.
+    let most = r.pick(&[0, kernel / 2, reach + 2]);
+    if op == Op::Transposed {
+        let begin = r.range(0, most);
+        // One input element alone reaches as far as the kernel: the pad at the end takes what is more than the row. With valid the row is longer by the pads.
+        let end = r.range(0, most).max(reach.saturating_sub(out + begin));
+        let rest = out + begin + end - reach;
+        return Axis { size: rest / stride + 1, kernel, stride, dilation, begin, end, extra: rest % stride };
+    }
+    let window = if matches!(auto_pad, AutoPad::SameUpper | AutoPad::SameLower) { 1 } else { reach };
+    // The columns after the last window are fewer than a stride, and one column at least is the input's.
+    let columns = (out - 1) * stride + window + r.range(0, stride - 1);
+    let begin = r.range(0, most.min(columns - 1));
+    let end = r.range(0, most.min(columns - 1 - begin));
+    let pads = if auto_pad == AutoPad::Explicit { begin + end } else { 0 };
+    Axis { size: columns - pads, kernel, stride, dilation, begin, end, extra: 0 }
 }
 
 /// A layer that is valid more often than not, small enough to be computed.
@@ -55,6 +76,7 @@ pub fn layer(r: &mut Random) -> Layer {
         r.pick(&[AutoPad::Explicit, AutoPad::SameUpper, AutoPad::SameLower, AutoPad::Valid])
     };
     let rank = axes as i64 + 2;
+    let by_row = op != Op::MaxPool && r.chance(2);
     Layer {
         op,
         axes,
@@ -63,8 +85,8 @@ pub fn layer(r: &mut Random) -> Layer {
         g,
         o,
         i,
-        y: if axes == 2 { axis(r, op, true) } else { UNUSED },
-        x: axis(r, op, axes == 2),
+        y: if axes == 2 { axis(r, op, if by_row { 5 } else { 7 }) } else { UNUSED },
+        x: if by_row { row(r, op, auto_pad) } else { axis(r, op, if axes == 2 { 7 } else { 24 }) },
         auto_pad,
         ceil: op == Op::MaxPool && r.chance(2),
         axis: if op == Op::MaxPool { r.range(0, 2 * rank as u64 - 1) as i64 - rank } else { 0 },

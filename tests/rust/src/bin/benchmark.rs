@@ -1,164 +1,188 @@
-//! Times each operator of the static library beside the same loops in plain Rust: same order of sums, same inputs, both built for release, outputs compared
-//! bit for bit. Prints the best of five runs each and their ratio. The output buffers are cleared before every run.
+//! Times each operator of the static library beside baselines on the same inputs: the same loops in plain Rust, in C at -O2 and at -O3, and the limit, which
+//! is C at -O3 tap by tap over whole rows of outputs. All sum in the same order; outputs are compared bit for bit. Prints the best runs, the ratio of the
+//! library's time to plain Rust's, and the share of the limit's speed that the library reaches.
+use kozamyure_tests::baseline::{c_o2, c_o3, c_rows, plain_rust, Call, Outputs};
 use kozamyure_tests::boundary;
 use kozamyure_tests::generate::Random;
-use kozamyure_tests::reference::{judge, show_sheet, AutoPad, Axis, Layer, Op, Shape, UNUSED};
-use std::time::Instant;
+use kozamyure_tests::reference::Op::{self, Convolution, MaxPool, Transposed};
+use kozamyure_tests::reference::{judge, show_sheet, AutoPad, Axis, Layer, UNUSED};
+use std::time::{Duration, Instant};
 
-fn axis(size: u64, kernel: u64, stride: u64, pad: u64) -> Axis {
-    Axis { size, kernel, stride, begin: pad, end: pad, ..UNUSED }
+/// Operator; channels, Y, X, output channels, kernel, stride, dilation, pads; a note.
+type Case = (Op, [u64; 8], &'static str);
+
+const CASES: &[Case] = &[
+    (Convolution, [3, 224, 224, 64, 5, 1, 1, 2], " (000's example 2)"),
+    (Convolution, [1, 480, 640, 1, 5, 1, 1, 2], " (a camera picture)"),
+    (Convolution, [1, 64, 64, 8, 3, 1, 1, 1], ""),
+    (Convolution, [16, 64, 64, 8, 3, 1, 1, 1], ""),
+    (Convolution, [16, 64, 64, 8, 5, 1, 1, 2], ""),
+    (Convolution, [4, 64, 64, 8, 11, 1, 1, 5], ""),
+    (Convolution, [4, 16, 16, 8, 3, 1, 1, 1], ""),
+    (Convolution, [4, 32, 32, 8, 3, 1, 1, 1], ""),
+    (Convolution, [4, 64, 64, 8, 3, 1, 1, 1], ""),
+    (Convolution, [4, 128, 128, 8, 3, 1, 1, 1], ""),
+    (Convolution, [4, 128, 128, 8, 3, 2, 1, 1], ""),
+    (Convolution, [4, 64, 64, 8, 3, 1, 2, 2], ""),
+    (Convolution, [4, 64, 64, 8, 3, 1, 1, 20], " (wide pads)"),
+    // One tap for each channel.
+    (Convolution, [1, 64, 64, 8, 1, 1, 1, 0], ""),
+    (Convolution, [16, 64, 64, 8, 1, 1, 1, 0], ""),
+    (Convolution, [64, 64, 64, 8, 1, 1, 1, 0], ""),
+    (Convolution, [64, 16, 16, 8, 1, 1, 1, 0], ""),
+    (Convolution, [64, 64, 64, 8, 1, 2, 1, 0], ""),
+    (Convolution, [8, 64, 3, 8, 3, 1, 1, 0], " (rows of 1)"),
+    (Convolution, [8, 64, 4, 8, 3, 1, 1, 0], " (rows of 2)"),
+    (Convolution, [8, 64, 5, 8, 3, 1, 1, 0], " (rows of 3)"),
+    (Convolution, [8, 64, 6, 8, 3, 1, 1, 0], " (rows of 4)"),
+    (Convolution, [8, 64, 7, 8, 3, 1, 1, 0], " (rows of 5)"),
+    (Convolution, [8, 64, 8, 8, 3, 1, 1, 0], " (rows of 6)"),
+    (Convolution, [8, 64, 10, 8, 3, 1, 1, 0], " (rows of 8)"),
+    (Convolution, [8, 64, 14, 8, 3, 1, 1, 0], " (rows of 12)"),
+    (Convolution, [8, 64, 4, 8, 3, 1, 1, 1], " (rows of 4)"),
+    (Convolution, [8, 64, 5, 8, 3, 1, 1, 1], " (rows of 5)"),
+    (Convolution, [8, 64, 6, 8, 3, 1, 1, 1], " (rows of 6)"),
+    (Convolution, [8, 64, 8, 8, 3, 1, 1, 1], " (rows of 8)"),
+    (Convolution, [4, 64, 6, 8, 7, 1, 1, 3], " (rows of 6)"),
+    (Convolution, [4, 64, 8, 8, 7, 1, 1, 3], " (rows of 8)"),
+    (Transposed, [4, 32, 32, 8, 3, 1, 1, 1], ""),
+    (Transposed, [4, 64, 64, 8, 3, 1, 1, 1], ""),
+    (Transposed, [4, 32, 32, 8, 3, 2, 1, 1], ""),
+    (Transposed, [4, 64, 64, 8, 3, 2, 1, 1], ""),
+    (Transposed, [4, 64, 64, 8, 4, 2, 1, 1], ""),
+    (Transposed, [4, 64, 64, 8, 5, 3, 1, 1], ""),
+    (Transposed, [64, 64, 64, 8, 1, 1, 1, 0], ""),
+    (Transposed, [8, 64, 1, 8, 3, 1, 1, 1], " (rows of 1)"),
+    (Transposed, [8, 64, 2, 8, 3, 1, 1, 1], " (rows of 2)"),
+    (Transposed, [8, 64, 4, 8, 3, 1, 1, 1], " (rows of 4)"),
+    (Transposed, [8, 64, 8, 8, 3, 1, 1, 1], " (rows of 8)"),
+    (MaxPool, [16, 64, 64, 1, 2, 2, 1, 0], ""),
+    (MaxPool, [16, 128, 128, 1, 2, 2, 1, 0], ""),
+    (MaxPool, [16, 128, 128, 1, 3, 1, 1, 0], ""),
+    (MaxPool, [16, 128, 128, 1, 5, 2, 1, 0], ""),
+];
+
+type Run = (&'static str, fn(&Call, &mut Outputs));
+
+/// What is timed. Pooling goes without the limit.
+const RUNS: [Run; 5] = [("library", library), ("plain Rust", plain_rust), ("C -O2", c_o2), ("C -O3", c_o3), ("limit", c_rows)];
+
+/// The best times of a call, in milliseconds, in the order of RUNS.
+struct Measured {
+    op: Op,
+    name: String,
+    times: Vec<f64>,
 }
 
-fn layer(op: Op, c: u64, o: u64, y: Axis, x: Axis) -> Layer {
-    let pool = op == Op::MaxPool;
-    Layer {
-        op, axes: 2, n: 1, c, g: 1, o: if pool { 1 } else { o }, i: if pool { 1 } else { c }, y, x, auto_pad: AutoPad::Explicit, ceil: false, axis: 0,
+impl Measured {
+    fn ratio(&self) -> f64 {
+        self.times[0] / self.times[1]
+    }
+
+    /// The share of the limit, in percent.
+    fn share(&self) -> Option<f64> {
+        self.times.get(4).map(|limit| 100.0 * limit / self.times[0])
     }
 }
 
-/// Position k of a tap, if it lies inside.
-fn at(p: usize, a: &Axis, begin: i64, k: usize) -> Option<usize> {
-    let t = p as i64 * a.stride as i64 - begin + k as i64 * a.dilation as i64;
-    (0..a.size as i64).contains(&t).then_some(t as usize)
+fn layer(&(op, [c, y, x, o, kernel, stride, dilation, pads], _): &Case) -> Layer {
+    let axis = |size: u64| Axis { size, kernel, stride, dilation, begin: pads, end: pads, ..UNUSED };
+    let i = if op == MaxPool { 1 } else { c };
+    Layer { op, axes: 2, n: 1, c, g: 1, o, i, y: axis(y), x: axis(x), auto_pad: AutoPad::Explicit, ceil: false, axis: 0 }
 }
 
-fn convolution(l: &Layer, s: &Shape, input: &[f32], kernel: &[f32], output: &mut [f32]) {
-    let (ky, kx, i) = (l.y.kernel as usize, l.x.kernel as usize, l.i as usize);
-    let (h, w) = (l.y.size as usize, l.x.size as usize);
-    let (oy, ox) = (s.y.out as usize, s.x.out as usize);
-    for o in 0..l.o as usize {
-        for y in 0..oy {
-            for x in 0..ox {
-                let mut sum = 0.0f32;
-                for c in 0..i {
-                    for a in 0..ky {
-                        let row = at(y, &l.y, s.y.begin, a);
-                        for b in 0..kx {
-                            let weight = kernel[((o * i + c) * ky + a) * kx + b];
-                            let value = match (row, at(x, &l.x, s.x.begin, b)) {
-                                (Some(r), Some(q)) => input[(c * h + r) * w + q],
-                                _ => 0.0,
-                            };
-                            sum += value * weight;
-                        }
-                    }
-                }
-                output[(o * oy + y) * ox + x] = sum;
-            }
+/// The sheet's sizes, and the attributes that are not at their defaults.
+fn name(sheet: &str, &(_, [.., stride, dilation, pads], note): &Case) -> String {
+    let field = |key: &str| sheet.lines().find_map(|line| line.strip_prefix(key)).expect("a sheet has every key");
+    let mut name = format!("{} [{}] with [{}]", field("op="), field("input="), field("kernel="));
+    for (what, value, default) in [("stride", stride, 1), ("dilation", dilation, 1), ("pads", pads, 0)] {
+        if value != default {
+            name += &format!(", {what} {value}");
         }
     }
+    name + note
 }
 
-/// Where tap k comes from, if it reaches position p.
-fn from(p: usize, a: &Axis, begin: i64, k: usize) -> Option<usize> {
-    let t = p as i64 + begin - k as i64 * a.dilation as i64;
-    let s = a.stride as i64;
-    (t >= 0 && t % s == 0 && t / s < a.size as i64).then(|| (t / s) as usize)
-}
-
-fn transposed(l: &Layer, s: &Shape, input: &[f32], kernel: &[f32], output: &mut [f32]) {
-    let (ky, kx, i, outs) = (l.y.kernel as usize, l.x.kernel as usize, l.i as usize, l.o as usize);
-    let (h, w) = (l.y.size as usize, l.x.size as usize);
-    let (oy, ox) = (s.y.out as usize, s.x.out as usize);
-    for o in 0..outs {
-        for y in 0..oy {
-            for x in 0..ox {
-                let mut sum = 0.0f32;
-                for c in 0..i {
-                    for a in 0..ky {
-                        let Some(r) = from(y, &l.y, s.y.begin, a) else { continue };
-                        for b in 0..kx {
-                            let Some(q) = from(x, &l.x, s.x.begin, b) else { continue };
-                            sum += input[(c * h + r) * w + q] * kernel[((c * outs + o) * ky + a) * kx + b];
-                        }
-                    }
-                }
-                output[(o * oy + y) * ox + x] = sum;
-            }
-        }
-    }
-}
-
-fn max_pool(l: &Layer, s: &Shape, input: &[f32], values: &mut [f32], indices: &mut [i64]) {
-    let (h, w) = (l.y.size as usize, l.x.size as usize);
-    let (oy, ox) = (s.y.out as usize, s.x.out as usize);
-    for c in 0..l.c as usize {
-        for y in 0..oy {
-            for x in 0..ox {
-                let mut best: Option<(f32, usize)> = None;
-                for a in 0..l.y.kernel as usize {
-                    let Some(r) = at(y, &l.y, s.y.begin, a) else { continue };
-                    for b in 0..l.x.kernel as usize {
-                        let Some(q) = at(x, &l.x, s.x.begin, b) else { continue };
-                        let place = (c * h + r) * w + q;
-                        if best.is_none_or(|(v, _)| v < input[place]) {
-                            best = Some((input[place], place));
-                        }
-                    }
-                }
-                let (v, p) = best.expect("no window is empty");
-                values[(c * oy + y) * ox + x] = v;
-                indices[(c * oy + y) * ox + x] = p as i64;
-            }
-        }
-    }
-}
-
-/// The best of five runs, in milliseconds.
-fn best(mut run: impl FnMut()) -> f64 {
-    (0..5)
-        .map(|_| {
-            let start = Instant::now();
-            run();
-            start.elapsed().as_secs_f64() * 1000.0
-        })
-        .fold(f64::INFINITY, f64::min)
-}
-
-fn compare(name: &str, l: Layer) {
-    let s = judge(l.op, &l).expect("a benchmark's layer is accepted");
-    let sheet = show_sheet(&l).into_bytes();
+fn call(case: &Case) -> Call {
+    let layer = layer(case);
+    let shape = judge(layer.op, &layer).expect("a benchmark's layer is accepted");
     let mut r = Random::new(7);
     let mut tensor = |n: u64| -> Vec<f32> { (0..n).map(|_| r.range(0, 2000) as f32 / 16.0 - 60.0).collect() };
-    let (input, kernel) = (tensor(s.inputs), tensor(s.weights));
-    let n = s.outputs as usize;
-    let (mut a, mut b) = (vec![0.0f32; n], vec![0.0f32; n]);
-    let (mut ia, mut ib) = (vec![0i64; n], vec![0i64; n]);
-    let library = best(|| {
-        a.fill(0.0);
-        let answer = match l.op {
-            Op::Convolution => boundary::convolution(&sheet, &input, &kernel, &mut a),
-            Op::Transposed => boundary::transposed(&sheet, &input, &kernel, &mut a),
-            Op::MaxPool => boundary::maxpool(&sheet, &input, &mut a, &mut ia),
-        };
-        assert_eq!(answer.number, 0);
-    });
-    let plain = best(|| {
-        b.fill(0.0);
-        match l.op {
-            Op::Convolution => convolution(&l, &s, &input, &kernel, &mut b),
-            Op::Transposed => transposed(&l, &s, &input, &kernel, &mut b),
-            Op::MaxPool => max_pool(&l, &s, &input, &mut b, &mut ib),
+    Call { sheet: show_sheet(&layer).into_bytes(), layer, shape, input: tensor(shape.inputs), kernel: tensor(shape.weights) }
+}
+
+fn library(call: &Call, out: &mut Outputs) {
+    let answer = match call.layer.op {
+        Convolution => boundary::convolution(&call.sheet, &call.input, &call.kernel, &mut out.values),
+        Transposed => boundary::transposed(&call.sheet, &call.input, &call.kernel, &mut out.values),
+        MaxPool => boundary::maxpool(&call.sheet, &call.input, &mut out.values, &mut out.indices),
+    };
+    assert_eq!(answer.number, 0);
+}
+
+/// The best of at least seven runs each, and of more where they are short. They take turns, so that a slow moment of the machine hits all alike. Outputs are
+/// spoiled before each run, and compared with the library's after the first.
+fn best(call: &Call, name: &str) -> Vec<f64> {
+    let pool = call.layer.op == MaxPool;
+    let outputs = call.shape.outputs as usize;
+    let spoiled = Outputs { values: vec![f32::NAN; outputs], indices: vec![-1; if pool { outputs } else { 0 }] };
+    let (mut expected, mut out) = (spoiled.clone(), spoiled.clone());
+    library(call, &mut expected);
+    let runs = if pool { &RUNS[..4] } else { &RUNS[..] };
+    let mut times = vec![f64::INFINITY; runs.len()];
+    let (start, mut turns) = (Instant::now(), 0);
+    while turns < 7 || start.elapsed() < Duration::from_millis(200) {
+        for k in 0..runs.len() {
+            // Each turn begins with another one: nothing on the machine keeps in step with one of them.
+            let at = (turns + k) % runs.len();
+            let (what, run) = runs[at];
+            out.clone_from(&spoiled);
+            let start = Instant::now();
+            run(call, &mut out);
+            times[at] = times[at].min(start.elapsed().as_secs_f64() * 1000.0);
+            assert!(turns > 0 || same(&out, &expected), "{what}: other outputs than the library's in {name}");
         }
-    });
-    assert!(a.iter().zip(&b).all(|(x, y)| x.to_bits() == y.to_bits()) && ia == ib, "{name}: outputs differ");
-    println!("| {name} | {} | {} | {library:.2} | {plain:.2} | {:.2} |", s.taps, s.outputs, library / plain);
+        turns += 1;
+    }
+    times
+}
+
+fn same(a: &Outputs, b: &Outputs) -> bool {
+    a.values.iter().zip(&b.values).all(|(x, y)| x.to_bits() == y.to_bits()) && a.indices == b.indices
+}
+
+/// Measures a case and prints its line of the table.
+fn measure(case: &Case) -> Measured {
+    let call = call(case);
+    let name = name(&show_sheet(&call.layer), case);
+    let m = Measured { op: case.0, times: best(&call, &name), name };
+    let mut cells = vec![m.name.clone(), call.shape.taps.to_string(), call.shape.outputs.to_string()];
+    cells.extend(m.times.iter().map(|t| format!("{t:.3}")));
+    cells.resize(3 + RUNS.len(), "-".to_string());
+    cells.push(format!("{:.2}", m.ratio()));
+    cells.push(m.share().map_or("-".to_string(), |s| format!("{s:.0} %")));
+    println!("| {} |", cells.join(" | "));
+    m
+}
+
+/// The worst of some calls: the largest ratio, and the smallest share of the limit where there is one.
+fn worst<'a>(what: &str, measured: impl Iterator<Item = &'a Measured> + Clone) {
+    let ratio = measured.clone().max_by(|a, b| a.ratio().total_cmp(&b.ratio())).expect("a kind has cases");
+    println!("{what}: at most {:.2} times plain Rust, {}", ratio.ratio(), ratio.name);
+    let shares = measured.filter_map(|m| m.share().map(|s| (s, &m.name)));
+    if let Some((share, name)) = shares.min_by(|a, b| a.0.total_cmp(&b.0)) {
+        println!("{what}: at least {share:.0} % of the limit, {name}");
+    }
 }
 
 fn main() {
-    println!("| call | taps | outputs | library, ms | plain Rust, ms | ratio |");
-    println!("|---|---|---|---|---|---|");
-    compare("convolution [1,3,224,224] with [1,64,3,5,5], pads 2 (000's example 2)", layer(Op::Convolution, 3, 64, axis(224, 5, 1, 2), axis(224, 5, 1, 2)));
-    for (c, k) in [(1, 1), (1, 3), (4, 3), (16, 3), (16, 5), (64, 1)] {
-        compare(&format!("convolution [1,{c},64,64], kernel {k}"), layer(Op::Convolution, c, 8, axis(64, k, 1, k / 2), axis(64, k, 1, k / 2)));
-    }
-    for size in [16, 32, 64, 128] {
-        compare(&format!("convolution [1,4,{size},{size}], kernel 3"), layer(Op::Convolution, 4, 8, axis(size, 3, 1, 1), axis(size, 3, 1, 1)));
-    }
-    for (size, k, s) in [(32, 3, 1), (32, 3, 2), (64, 3, 2), (64, 4, 2), (64, 5, 3)] {
-        compare(&format!("transposed [1,4,{size},{size}], kernel {k}, stride {s}"), layer(Op::Transposed, 4, 8, axis(size, k, s, 1), axis(size, k, s, 1)));
-    }
-    for (size, k, s) in [(64, 2, 2), (128, 2, 2), (128, 3, 1), (128, 5, 2)] {
-        compare(&format!("maxpool [1,16,{size},{size}], kernel {k}, stride {s}"), layer(Op::MaxPool, 16, 1, axis(size, k, s, 0), axis(size, k, s, 0)));
+    let times = RUNS.map(|(what, _)| format!("{what}, ms")).join(" | ");
+    println!("| call | taps | outputs | {times} | library / plain Rust | limit / library |");
+    println!("|---|---|---|---|---|---|---|---|---|---|");
+    let measured: Vec<Measured> = CASES.iter().map(measure).collect();
+    println!();
+    worst("all", measured.iter());
+    for (op, what) in [(Convolution, "convolution"), (Transposed, "transposed"), (MaxPool, "maxpool")] {
+        worst(what, measured.iter().filter(|m| m.op == op));
     }
 }

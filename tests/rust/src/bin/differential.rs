@@ -3,6 +3,7 @@
 use kozamyure_tests::boundary;
 use kozamyure_tests::generate::{self, Kind, Random};
 use kozamyure_tests::reference::{self, Layer, Op, Refusal, Shape, Sum};
+use std::collections::{BTreeMap, BTreeSet};
 use std::process::ExitCode;
 
 /// Numbers that every run must see, each at least this often in 100,000 calls.
@@ -10,12 +11,17 @@ const SEEN: [(u32, u64); 14] = [
     (0, 20_000), (1, 300), (2, 300), (3, 300), (4, 100), (5, 300), (6, 100), (7, 300), (8, 300), (9, 300), (20, 300), (21, 300), (22, 100), (23, 100),
 ];
 
+/// Rows of outputs, strides and dilations along X up to these numbers: a run of LONG_RUN calls or more must see each three of them with both convolutions.
+const ROWS: [u64; 3] = [40, 4, 3];
+const LONG_RUN: u64 = 150_000;
+
 #[derive(Default)]
 struct Counts {
-    by_number: std::collections::BTreeMap<u32, u64>,
+    by_number: BTreeMap<u32, u64>,
     whole: u64,
     exact: u64,
     outputs: u64,
+    rows: [BTreeSet<[u64; 3]>; 2],
     peaks: u64,
     rewritten: u64,
     failures: u64,
@@ -26,6 +32,14 @@ impl Counts {
         self.failures += 1;
         if self.failures <= 5 {
             eprintln!("FAILED: {what}: {detail}\nsheet:\n{}", String::from_utf8_lossy(sheet));
+        }
+    }
+
+    /// The rows of an accepted call. With one tap a dilation means nothing, so such a kernel does not count.
+    fn see_rows(&mut self, l: &Layer, shape: &Shape) {
+        let row = [shape.x.out as u64, l.x.stride, l.x.dilation];
+        if l.x.kernel > 1 && row.iter().zip(ROWS).all(|(v, most)| *v <= most) {
+            self.rows[usize::from(l.op == Op::Transposed)].insert(row);
         }
     }
 }
@@ -119,8 +133,9 @@ fn check_convolution(r: &mut Random, counts: &mut Counts, op: Op, call: &Call) -
     if got != expected || bits(&output) != after {
         counts.fail("convolution", call.sheet, format!("{op:?}: {got:?}, expected {expected:?}; output {output:?}"));
     }
-    if let Ok((shape, sums)) = &result {
+    if let (Some(l), Ok((shape, sums))) = (call.layer, &result) {
         counts.outputs += sums.len() as u64;
+        counts.see_rows(l, shape);
         if call.kind == Kind::Whole {
             check_whole(counts, call.sheet, shape, sums, &output);
         }
@@ -212,6 +227,35 @@ fn one_call(r: &mut Random, counts: &mut Counts) {
     *counts.by_number.entry(number).or_default() += 1;
 }
 
+/// Whether each number came back often enough.
+fn report_numbers(counts: &Counts, made: u64) -> bool {
+    let numbers: Vec<String> = counts.by_number.iter().map(|(n, c)| format!("{n}: {c}")).collect();
+    println!("numbers seen: {}", numbers.join(", "));
+    let mut often = true;
+    for (number, least) in SEEN {
+        let seen = counts.by_number.get(&number).copied().unwrap_or(0);
+        if seen * 100_000 < least * made {
+            println!("number {number} is too rare: {seen}");
+            often = false;
+        }
+    }
+    often
+}
+
+/// Whether both convolutions met all rows, as a long run must. Pads and output padding fit an input to every row, so that none is impossible.
+fn report_rows(counts: &Counts, made: u64) -> bool {
+    let [out, stride, dilation] = ROWS;
+    let all = (out * stride * dilation) as usize;
+    let [convolution, transposed] = counts.rows.each_ref().map(BTreeSet::len);
+    print!("rows of 1 to {out} outputs, strides 1 to {stride}, dilations 1 to {dilation}: ");
+    println!("{convolution} of {all} seen by convolution, {transposed} of {all} by transposed");
+    if made >= LONG_RUN && (convolution < all || transposed < all) {
+        println!("some rows were not met");
+        return false;
+    }
+    true
+}
+
 fn main() -> ExitCode {
     let args: Vec<u64> = std::env::args().skip(1).map(|a| a.parse().expect("numbers: CALLS SEED")).collect();
     let calls = args.first().copied().unwrap_or(100_000);
@@ -224,20 +268,12 @@ fn main() -> ExitCode {
     }
     println!("{made} calls, {} outputs, {} of them whole, {} in the exact case", counts.outputs, counts.whole, counts.exact);
     println!("{} peaks, {} sheets written back", counts.peaks, counts.rewritten);
-    let numbers: Vec<String> = counts.by_number.iter().map(|(n, c)| format!("{n}: {c}")).collect();
-    println!("numbers seen: {}", numbers.join(", "));
-    let mut rare = false;
-    for (number, least) in SEEN {
-        let seen = counts.by_number.get(&number).copied().unwrap_or(0);
-        if seen * 100_000 < least * made {
-            println!("number {number} is too rare: {seen}");
-            rare = true;
-        }
-    }
+    let numbers_seen = report_numbers(&counts, made);
+    let rows_seen = report_rows(&counts, made);
     if counts.failures > 0 {
         println!("{} comparisons FAILED", counts.failures);
     }
-    if rare || counts.failures > 0 {
+    if !numbers_seen || !rows_seen || counts.failures > 0 {
         return ExitCode::FAILURE;
     }
     println!("all agree");
