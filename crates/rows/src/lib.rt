@@ -26,6 +26,9 @@ pub fn steps(distance: usize, stride: usize) -> usize
     if distance == 0 {
         return 0;
     }
+    if distance <= stride {
+        return 1;
+    }
     (distance - 1) / stride + 1
 }
 

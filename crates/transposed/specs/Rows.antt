@@ -1,6 +1,8 @@
 -- For the code, and no part of what is promised: an output's taps from its first tap on, by rows of the kernel. proofs/Places.antt joins them to `placeOf`.
 use Prim.Native.Nat.{ℕ, _+_, _*_, _/_, _%_, _≤_, _<_}
+use mathlib.Core.Bool.{cond}
 use mathlib.Core.List.{List}
+use lib.Dec.{ltb}
 use lib.ListN.{length, take, drop}
 use lib.Ieee.{Float}
 use Rattle.shape.specs.declared.Shape.{Shape}
@@ -12,6 +14,10 @@ use Rattle.transposed.specs.declared.FirstTap.{FirstTap}
 use Rattle.transposed.specs.declared.Reach.{Reach}
 use Rattle.transposed.specs.declared.Reach.the-variants.{At, Away}
 use Rattle.transposed.specs.Transposed.{reachOf, meet}
+
+-- a position along an axis of this size, if it lies inside
+abbrev pub positionIn : ℕ → ℕ → Reach
+positionIn size q = cond (ltb q size) (At q) Away
 
 -- the first taps of the row of outputs at a position: their plane of the input and of the kernel, and the outputs' row counted from the start of the padding
 abbrev pub firstTapAt : Shape → Position → FirstTap

@@ -20,7 +20,7 @@ ghost use Rattle.rows.specs.Rows.{Summed};
 ghost use Rattle.call.specs.Call.{answerOf, contentsOf, WholeOutputs, FiniteOutputs};
 ghost use Rattle.call.specs.Fitting.{rows, Fitting};
 ghost use Rattle.transposed.specs.Transposed.{reachOf, placeOf};
-ghost use Rattle.transposed.specs.Rows.{firstTapOf, placeFrom, rowTap, rowOf, Within};
+ghost use Rattle.transposed.specs.Rows.{positionIn, firstTapOf, placeFrom, rowTap, rowOf, Within};
 
 // The input position that a tap reaches along one axis, if any.
 pub enum Reach {
@@ -35,7 +35,18 @@ pub struct FirstTap {
     pub row: usize,
 }
 
-// The input position that tap k reaches from p, counted from the start of the padding.
+// A position along an axis of the input, if it lies inside.
+fn position(size: usize, at: usize) -> Reach
+    ensures { λ r. ⌜ r ≡ positionIn size at ⌝ }
+{
+    if at < size {
+        Reach::At(at)
+    } else {
+        Reach::Away
+    }
+}
+
+// The input position that tap k reaches from p, counted from the start of the padding. A stride of 1 needs no division.
 fn reach_of(size: usize, dilation: usize, stride: usize, p: usize, k: usize) -> Reach
     requires { ⌜ (1 ≤ stride) × ((dilation ≤ 16) × (k ≤ 64)) ⌝ }
     ensures { λ r. ⌜ r ≡ reachOf size dilation stride p k ⌝ }
@@ -45,16 +56,14 @@ fn reach_of(size: usize, dilation: usize, stride: usize, p: usize, k: usize) -> 
         return Reach::Away;
     }
     let q = p - back;
+    if stride == 1 {
+        return position(size, q);
+    }
     let rest = q % stride;
     if rest != 0 {
         return Reach::Away;
     }
-    let at = q / stride;
-    if at < size {
-        Reach::At(at)
-    } else {
-        Reach::Away
-    }
+    position(size, q / stride)
 }
 
 // Tap k of a kernel row more for each output of a row that it reaches: these stand a stride apart, and the input's elements that it reaches follow one another.

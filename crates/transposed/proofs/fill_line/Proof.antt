@@ -14,7 +14,7 @@ use Rattle.rows.specs.Rows.{Summed}
 use Rattle.rows.proofs.Rows.{summed-start, summed-row}
 use Rattle.call.specs.Fitting.{rows}
 use Rattle.call.proofs.Products.{kernel-pos}
-use Rattle.call.proofs.Lines.{line-outputs}
+use Rattle.call.proofs.Lines.{line-sums, line-outputs}
 use Rattle.transposed.specs.Transposed.{placeOf}
 use Rattle.transposed.specs.Rows.{placeFrom}
 use Rattle.transposed.proofs.Bounds.{OutputBounds, output-bounds}
@@ -81,8 +81,8 @@ returns c =
     let a = l .before .before .before .before .before .before .before .before .before .before .before .before in
     let e : l .loop .r ≡ rows (a .args .s) = omega (arith, l .loop .inv .0, c .loop-test .left) in
     let k : l .loop .r * a .args .s .x .kernel ≡ a .args .s .taps = rw (e, a .pre .0 .shape .taps-is) refl in
-    line-outputs (a .args .s) (placeOf (a .args .s)) _ _ _ (a .args .line) _ (a .pre .0) k
-    (λ x t p. rw (l .before .before .first-tap .ensures) (place-from-first (a .args .s) (a .args .line) t p)) (started l) (l .loop .inv .1)
+    line-sums (a .args .s) _ _ _ _ (a .pre .0) (started l) (rw k at (l .loop .inv .1))
+    ∙ line-outputs (a .args .s) (placeOf (a .args .s)) _ _ _ (a .args .line) (λ x t p. rw (l .before .before .first-tap .ensures) (place-from-first (a .args .s) (a .args .line) t p))
 
 pub fill-line-spec : {M : Type 1} → statement M
 fill-line-spec =
