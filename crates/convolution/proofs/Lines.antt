@@ -20,7 +20,7 @@ use Rattle.padded.specs.Padded.{Before}
 use Rattle.rows.specs.Rows.{Summed}
 use Rattle.rows.proofs.Rows.{summed-part, summed-same}
 use Rattle.convolution.specs.declared.FirstTap.{FirstTap}
-use Rattle.convolution.specs.Rows.{placeFrom, atColumn, lineTaps}
+use Rattle.convolution.specs.Rows.{placeFrom, lineTaps}
 use Rattle.convolution.proofs.Rows.{column-outside}
 
 -- ---- all taps of a row of outputs: those before lo and from hi on have every tap outside the input's columns
@@ -83,10 +83,10 @@ module _ (s : Shape) (input kernel : List Float) (f : FirstTap) (out : List Floa
 
   -- the others
   pub rows-part : (a b : ℕ) {q : ℕ} {l ys : List Float} → q ≡ a * s .x .stride → a ≤ b → b ≤ length out → Summed (lineTaps s input kernel f) (s .taps) a out l
-      → Summed (λ x t. tapAt input kernel (placeFrom s (atColumn f (q + x * s .x .stride)) t)) (s .taps) (length (take (b - a) (drop a l))) (take (b - a) (drop a l)) ys
+      → Summed (λ x t. tapAt input kernel (placeFrom s f (q + x * s .x .stride) t)) (s .taps) (length (take (b - a) (drop a l))) (take (b - a) (drop a l)) ys
       → length (take a l ++ (ys ++ drop (b - a) (drop a l))) ≡ length l
       → Summed (lineTaps s input kernel f) (s .taps) b out (take a l ++ (ys ++ drop (b - a) (drop a l)))
   rows-part a b {q} {l} e h m i j k =
       let w : a + (b - a) ≡ b = omega arith in
       rw w at (summed-part _ _ a (b - a) i (omega arith)
-      (summed-same (rw (part-length l a (b - a) (omega (arith, i .kept))) at j) (λ x t u v. ap (λ (c : ℕ). tapAt input kernel (placeFrom s (atColumn f c) t)) (let z : q + x * s .x .stride ≡ (a + x) * s .x .stride = omega (arith, add-mul a x (s .x .stride)) in z))) k)
+      (summed-same (rw (part-length l a (b - a) (omega (arith, i .kept))) at j) (λ x t u v. ap (λ (c : ℕ). tapAt input kernel (placeFrom s f c t)) (let z : q + x * s .x .stride ≡ (a + x) * s .x .stride = omega (arith, add-mul a x (s .x .stride)) in z))) k)

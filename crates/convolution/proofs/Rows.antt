@@ -24,7 +24,7 @@ use Rattle.padded.proofs.Values.{row-value, empty-value}
 use Rattle.call.specs.Fitting.{rows}
 use Rattle.tensor.proofs.Lines.{line-start}
 use Rattle.convolution.specs.Convolution.{placeOf}
-use Rattle.convolution.specs.Rows.{firstTapOf, paddedPlace, placeFrom, rowPart, atColumn}
+use Rattle.convolution.specs.Rows.{paddedPlace, placeFrom, rowPart}
 use Rattle.convolution.specs.declared.FirstTap.{FirstTap}
 use Rattle.convolution.proofs.Places.{place-from-first}
 use Rattle.convolution.proofs.Bounds.{RowBounds}
@@ -66,7 +66,7 @@ module _ (s : Shape) (input kernel : List Float) (f : FirstTap) (r : ℕ) (row w
 
   -- a tap of it, for an output at any column
   row-tap : (column k : ℕ) → k < s .x .kernel
-      → pair (columnValue row (s .x .begin) (column + k * s .x .dilation)) (read weights k) ≡ tapAt input kernel (placeFrom s (atColumn f column) (r * s .x .kernel + k))
+      → pair (columnValue row (s .x .begin) (column + k * s .x .dilation)) (read weights k) ≡ tapAt input kernel (placeFrom s f column (r * s .x .kernel + k))
   unfolding placeFrom
   row-tap column k l =
       rw (er, ew, add-sub-cancel-left (f .weight + r * s .x .kernel) (s .x .kernel), place-div r l, place-mod r l, part-read kernel (f .weight + r * s .x .kernel) (s .x .kernel) k l, add-assoc (f .weight) (r * s .x .kernel) k)
@@ -74,35 +74,13 @@ module _ (s : Shape) (input kernel : List Float) (f : FirstTap) (r : ℕ) (row w
 
   -- its taps, for each of some outputs of a row: that of the first lies at column q
   pub line-taps : (q : ℕ) {n : ℕ} {l o : List Float} → Summed (paddedTaps row weights (s .x .begin) (s .x .stride) (s .x .dilation) q) (length weights) n l o
-      → Summed (λ x k. tapAt input kernel (placeFrom s (atColumn f (q + x * s .x .stride)) (r * s .x .kernel + k))) (s .x .kernel) n l o
+      → Summed (λ x k. tapAt input kernel (placeFrom s f (q + x * s .x .stride) (r * s .x .kernel + k))) (s .x .kernel) n l o
   line-taps q i = summed-same (rw row-weights at i) (λ x k u v. row-tap (q + x * s .x .stride) k v)
 
--- its taps, for one output
-pub row-taps : (s : Shape) (input kernel : List Float) (f : FirstTap) (r : ℕ) (sum : Float) (row weights : List Float) → row ≡ valuesOf s input f r → weights ≡ weightsOf s kernel f r
-    → RowBounds s f r (length input) (length kernel)
-    → sumFrom sum (λ k. pair (columnValue row (s .x .begin) (f .column + k * s .x .dilation)) (read weights k)) (length weights)
-    ≡ sumFrom sum (λ k. tapAt input kernel (placeFrom s f (r * s .x .kernel + k))) (s .x .kernel)
-row-taps s input kernel f r sum row weights er ew b =
-    rw (row-weights s input kernel f r row weights er ew b) (sum-same _ _ _ _ (λ k l. row-tap s input kernel f r row weights er ew b (f .column) k l))
-
--- all kernel rows of output j
-pub output-rows : (s : Shape) (input kernel : List Float) (f : FirstTap) (j r : ℕ) → Grouped s → f ≡ firstTapOf s j → r ≡ rows s
-    → sumFrom plusZero (λ t. tapAt input kernel (placeFrom s f t)) (r * s .x .kernel) ≡ outputOf (placeOf s) (s .taps) input kernel j
-unfolding outputOf
-output-rows s input kernel f j r h ef er =
-    rw (ef, er)
-    (sum-same _ _ _ _ (λ t l. ap (tapAt input kernel) (place-from-first s j t h))
-    ∙ ap (sumFrom plusZero (tapsOf (placeOf s) input kernel j)) (sym (h .taps-is)))
-
--- ---- a row of outputs
-
--- output x of it has the first tap of the row's first output, moved
-line-tap : (s : Shape) (f : FirstTap) (line x : ℕ) → x < s .x .out → f ≡ firstTapOf s (line * s .x .out) → atColumn f (x * s .x .stride) ≡ firstTapOf s (line * s .x .out + x)
-line-tap s f line x h e = rw (e, line-start line {w = s .x .out} (omega arith), place-div line h, place-mod line h)
-
--- so its places are those of the definition
-pub line-place : (s : Shape) (f : FirstTap) (line x t : ℕ) → Grouped s → x < s .x .out → f ≡ firstTapOf s (line * s .x .out) → placeFrom s (atColumn f (x * s .x .stride)) t ≡ placeOf s (line * s .x .out + x) t
-line-place s f line x t g h e = ap (λ (p : FirstTap). placeFrom s p t) (line-tap s f line x h e) ∙ place-from-first s (line * s .x .out + x) t g
+  -- its taps, for one output
+  pub row-taps : (q : ℕ) (sum : Float) → sumFrom sum (λ k. pair (columnValue row (s .x .begin) (q + k * s .x .dilation)) (read weights k)) (length weights)
+      ≡ sumFrom sum (λ k. tapAt input kernel (placeFrom s f q (r * s .x .kernel + k))) (s .x .kernel)
+  row-taps q sum = rw row-weights (sum-same _ _ _ _ (λ k l. row-tap q k l))
 
 -- a tap before or after the input's columns
 outside-tap : (input kernel : List Float) (b : Bool) (p : Place) (w : ℕ) → tapAt input kernel (cond (b && false) p (outside w)) ≡ pair plusZero (read kernel w)
@@ -116,7 +94,7 @@ padded-outside s input kernel plane p q w e =
     rw e (outside-tap input kernel (inside (s .y .begin) (s .y .input) p) (at ((plane * s .y .input + (p - s .y .begin)) * s .x .input + (q - s .x .begin)) w) w)
 
 pub column-outside : (s : Shape) (input kernel : List Float) (f : FirstTap) (c t : ℕ) → inside (s .x .begin) (s .x .input) (c + t % s .x .kernel * s .x .dilation) ≡ false
-    → tapAt input kernel (placeFrom s (atColumn f c) t) ≡ pair plusZero (read kernel (f .weight + t))
+    → tapAt input kernel (placeFrom s f c t) ≡ pair plusZero (read kernel (f .weight + t))
 unfolding placeFrom
 column-outside s input kernel f c t e = padded-outside s input kernel _ _ _ _ e
 

@@ -12,17 +12,16 @@ use Rattle.sums.specs.Taps.{Place, outside, at, Tap, tapAt}
 use Rattle.convolution.specs.Convolution.{groupOf}
 use Rattle.convolution.specs.declared.FirstTap.{FirstTap}
 
--- the first tap of the output at a position: its plane of the input, its weight, and its row and column counted from the start of the padding
+-- the first taps of the row of outputs at a position: their plane of the input, their weight, and their row counted from the start of the padding
 abbrev pub firstTapAt : Shape → Position → FirstTap
 firstTapAt s p =
     record {
       plane = p .image * s .c + groupOf s (p .channel) * s .i;
       weight = p .channel * s .taps;
       row = p .row * s .y .stride;
-      column = p .column * s .x .stride;
     }
 
--- the first tap of output number j
+-- those of the row of output number j
 abbrev pub firstTapOf : Shape → ℕ → FirstTap
 firstTapOf s j = firstTapAt s (positionOf (s .g * s .o) (s .y .out) (s .x .out) j)
 
@@ -33,13 +32,13 @@ paddedPlace s plane p q weight =
     (at ((plane * s .y .input + (p - s .y .begin)) * s .x .input + (q - s .x .begin)) weight)
     (outside weight)
 
--- tap number t from a first tap on
-unfoldable pub placeFrom : Shape → FirstTap → ℕ → Place
-placeFrom s f t =
+-- tap number t from a first tap on, of the output whose first tap lies at this column, counted from the start of the padding
+unfoldable pub placeFrom : Shape → FirstTap → ℕ → ℕ → Place
+placeFrom s f column t =
     paddedPlace s
     (f .plane + t / s .x .kernel / s .y .kernel)
     (f .row + t / s .x .kernel % s .y .kernel * s .y .dilation)
-    (f .column + t % s .x .kernel * s .x .dilation)
+    (column + t % s .x .kernel * s .x .dilation)
     (f .weight + t)
 
 -- the part of the input that is row p of a plane, counted from the start of the padding: empty outside the input
@@ -47,19 +46,12 @@ unfoldable pub rowPart : List Float → ℕ → ℕ → ℕ → ℕ → ℕ → 
 rowPart input plane begin height width p =
     cond (inside begin height p) (take width (drop ((plane * height + (p - begin)) * width) input)) []
 
--- a first tap whose output lies in the tensors with all its taps
+-- first taps whose outputs lie in the tensors with all their taps
 pub record Within (s : Shape) (f : FirstTap) : Type 0 where
   pub plane : f .plane + s .i ≤ s .n * s .c
   pub weight : f .weight + s .taps ≤ s .weights
   pub row : f .row ≤ 1064704
-  pub column : f .column ≤ 1064704
 
--- ---- rows of outputs
-
--- a first tap moved to another column
-abbrev pub atColumn : FirstTap → ℕ → FirstTap
-atColumn f column = record { plane = f .plane; weight = f .weight; row = f .row; column = column }
-
--- all taps of output x of the row whose first output has this first tap
+-- all taps of output x of the row with these first taps
 abbrev pub lineTaps : Shape → List Float → List Float → FirstTap → ℕ → ℕ → Tap
-lineTaps s input kernel f x t = tapAt input kernel (placeFrom s (atColumn f (x * s .x .stride)) t)
+lineTaps s input kernel f x t = tapAt input kernel (placeFrom s f (x * s .x .stride) t)

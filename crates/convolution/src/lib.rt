@@ -15,23 +15,20 @@ ghost use mathlib.Core.Path.{_≡_};
 ghost use Prim.Native.Nat.{_+_, _*_, _≤_, _<_};
 ghost use lib.ListN.{length};
 ghost use Rattle.shape.specs.Facts.{Grouped};
-ghost use Rattle.tensor.specs.Table.{tabulate};
+ghost use Rattle.tensor.specs.Table.{plusZero, tabulate};
 ghost use Rattle.sums.specs.Taps.{tapAt, sumFrom, outputOf, outputsOf};
 ghost use Rattle.rows.specs.Rows.{Summed};
 ghost use Rattle.call.specs.Call.{answerOf, contentsOf, WholeOutputs, FiniteOutputs};
 ghost use Rattle.call.specs.Fitting.{rows, Fitting};
 ghost use Rattle.convolution.specs.Convolution.{placeOf};
-ghost use Rattle.convolution.specs.Rows.{firstTapOf, placeFrom, rowPart, Within, atColumn, lineTaps};
+ghost use Rattle.convolution.specs.Rows.{firstTapOf, placeFrom, rowPart, Within, lineTaps};
 
-// The first tap of an output: its plane of the input, its weight, and its row and column, counted from the start of the padding.
+// The first taps of a row of outputs: their plane of the input, their weight, and their row, counted from the start of the padding.
 struct FirstTap {
     plane: usize,
     weight: usize,
     row: usize,
-    column: usize,
 }
-
-// ---- one output after another
 
 // The part of the input that is row p of a plane, counted from the start of the padding: empty outside the input.
 fn row_part(
@@ -58,7 +55,7 @@ fn row_part(
     }
 }
 
-// The first tap of output number j.
+// The first taps of the row of outputs that begins with output number j.
 fn first_tap(s: Shape, j: usize) -> FirstTap
     requires { ⌜ Grouped s ⌝ }
     requires { ⌜ j < s .outputs ⌝ }
@@ -71,16 +68,25 @@ fn first_tap(s: Shape, j: usize) -> FirstTap
         plane: p.image * s.c + group * s.i,
         weight: p.channel * s.taps,
         row: p.row * s.y.stride,
-        column: p.column * s.x.stride,
     }
 }
 
-// The sum so far, and then the taps of kernel row r of the output with this first tap.
-fn add_row(s: Shape, input: &[f32], kernel: &[f32], f: FirstTap, r: usize, sum: f32) -> f32
+// ---- one output after another
+
+// The sum so far, and then the taps of kernel row r, of which the first lies at column q.
+fn add_row(
+    s: Shape,
+    input: &[f32],
+    kernel: &[f32],
+    f: FirstTap,
+    r: usize,
+    q: usize,
+    sum: f32,
+) -> f32
     requires { ⌜ Fitting s (now input) (now kernel) ⌝ }
     requires { ⌜ Within s f ⌝ }
-    requires { ⌜ r < rows s ⌝ }
-    ensures { λ v. ⌜ v ≡ sumFrom sum (λ k. tapAt (now (input .entry)) (now (kernel .entry)) (placeFrom s f (r * s .x .kernel + k))) (s .x .kernel) ⌝ }
+    requires { ⌜ (r < rows s) × (q ≤ 1064704) ⌝ }
+    ensures { λ v. ⌜ v ≡ sumFrom sum (λ k. tapAt (now (input .entry)) (now (kernel .entry)) (placeFrom s f q (r * s .x .kernel + k))) (s .x .kernel) ⌝ }
 {
     let height = s.y.kernel;
     let width = s.x.kernel;
@@ -89,49 +95,42 @@ fn add_row(s: Shape, input: &[f32], kernel: &[f32], f: FirstTap, r: usize, sum: 
     let row = row_part(input, plane, s.y.begin, s.y.input, s.x.input, p);
     let start = f.weight + r * width;
     let end = start + width;
-    kernel_row_sum(
-        sum,
-        row,
-        &kernel[start..end],
-        f.column,
-        s.x.dilation,
-        s.x.begin,
-    )
+    kernel_row_sum(sum, row, &kernel[start..end], q, s.x.dilation, s.x.begin)
 }
 
-// Output number j: kernel row by kernel row.
-fn output_sum(s: Shape, input: &[f32], kernel: &[f32], j: usize) -> f32
+// The output of a row whose first tap lies at column q: kernel row by kernel row.
+fn output_sum(s: Shape, input: &[f32], kernel: &[f32], f: FirstTap, q: usize) -> f32
     requires { ⌜ Fitting s (now input) (now kernel) ⌝ }
-    requires { ⌜ j < s .outputs ⌝ }
-    ensures { λ v. ⌜ v ≡ outputOf (placeOf s) (s .taps) (now (input .entry)) (now (kernel .entry)) j ⌝ }
+    requires { ⌜ Within s f × (q ≤ 1064704) ⌝ }
+    ensures { λ v. ⌜ v ≡ sumFrom plusZero (λ t. tapAt (now (input .entry)) (now (kernel .entry)) (placeFrom s f q t)) (s .taps) ⌝ }
 {
-    let f = first_tap(s, j);
     let rows = s.i * s.y.kernel;
     let mut sum = 0.0;
     let mut r = 0;
     while r < rows {
-        sum = add_row(s, input, kernel, f, r, sum);
+        sum = add_row(s, input, kernel, f, r, q, sum);
         r += 1;
     }
     sum
 }
 
-// Every output, one after another.
-fn fill_each(s: Shape, input: &[f32], kernel: &[f32], output: &mut [f32])
+// The outputs of the row with these first taps, one after another.
+fn sum_each(s: Shape, input: &[f32], kernel: &[f32], f: FirstTap, out: &mut [f32])
     requires { ⌜ Fitting s (now input) (now kernel) ⌝ }
-    requires { ⌜ length (now output) ≡ s .outputs ⌝ }
-    ensures { λ _. ⌜ now (output .exit) ≡ outputsOf (placeOf s) (s .taps) (s .outputs) (now (input .entry)) (now (kernel .entry)) ⌝ }
+    requires { ⌜ Within s f × (length (now out) ≡ s .x .out) ⌝ }
+    ensures { λ _. ⌜ now (out .exit) ≡ tabulate (λ x. sumFrom plusZero (lineTaps s (now (input .entry)) (now (kernel .entry)) f x) (s .taps)) (s .x .out) ⌝ }
 {
-    let mut j = 0;
-    while j < output.len() {
-        output[j] = output_sum(s, input, kernel, j);
-        j += 1;
+    let stride = s.x.stride;
+    let mut x = 0;
+    while x < out.len() {
+        out[x] = output_sum(s, input, kernel, f, x * stride);
+        x += 1;
     }
 }
 
 // ---- a row of outputs, side by side
 
-// The taps of kernel row r more for each of some outputs of the row whose first output has this first tap. That of the first of them lies at column q.
+// The taps of kernel row r more for each of some outputs of the row with these first taps. That of the first of them lies at column q.
 fn add_row_across(
     s: Shape,
     input: &[f32],
@@ -144,7 +143,7 @@ fn add_row_across(
     requires { ⌜ Fitting s (now input) (now kernel) ⌝ }
     requires { ⌜ Within s f ⌝ }
     requires { ⌜ (r < rows s) × ((q ≤ 1040) × (length (now out) ≤ s .x .out)) ⌝ }
-    ensures { λ _. ⌜ Summed (λ x k. tapAt (now (input .entry)) (now (kernel .entry)) (placeFrom s (atColumn f (q + x * s .x .stride)) (r * s .x .kernel + k))) (s .x .kernel) (length (now (out .entry))) (now (out .entry)) (now (out .exit)) ⌝ }
+    ensures { λ _. ⌜ Summed (λ x k. tapAt (now (input .entry)) (now (kernel .entry)) (placeFrom s f (q + x * s .x .stride) (r * s .x .kernel + k))) (s .x .kernel) (length (now (out .entry))) (now (out .entry)) (now (out .exit)) ⌝ }
 {
     let height = s.y.kernel;
     let taps = s.x.kernel;
@@ -169,7 +168,7 @@ fn add_rows(s: Shape, input: &[f32], kernel: &[f32], f: FirstTap, q: usize, out:
     requires { ⌜ Fitting s (now input) (now kernel) ⌝ }
     requires { ⌜ Within s f ⌝ }
     requires { ⌜ (q ≤ 1040) × (length (now out) ≤ s .x .out) ⌝ }
-    ensures { λ _. ⌜ Summed (λ x t. tapAt (now (input .entry)) (now (kernel .entry)) (placeFrom s (atColumn f (q + x * s .x .stride)) t)) (s .taps) (length (now (out .entry))) (now (out .entry)) (now (out .exit)) ⌝ }
+    ensures { λ _. ⌜ Summed (λ x t. tapAt (now (input .entry)) (now (kernel .entry)) (placeFrom s f (q + x * s .x .stride) t)) (s .taps) (length (now (out .entry))) (now (out .entry)) (now (out .exit)) ⌝ }
 {
     let rows = s.i * s.y.kernel;
     let mut row = 0;
@@ -179,7 +178,7 @@ fn add_rows(s: Shape, input: &[f32], kernel: &[f32], f: FirstTap, q: usize, out:
     }
 }
 
-// All taps of each output of the row whose first output has this first tap. The outputs before lo and from hi on have every tap outside the input's columns.
+// All taps of each output of the row with these first taps. The outputs before lo and from hi on have every tap outside the input's columns.
 fn add_line(s: Shape, input: &[f32], kernel: &[f32], f: FirstTap, out: &mut [f32])
     requires { ⌜ Fitting s (now input) (now kernel) ⌝ }
     requires { ⌜ Within s f × (length (now out) ≡ s .x .out) ⌝ }
@@ -198,19 +197,46 @@ fn add_line(s: Shape, input: &[f32], kernel: &[f32], f: FirstTap, out: &mut [f32
     add_outside(&mut out[hi..n], weights);
 }
 
+// The outputs of the row with these first taps, side by side.
+fn sum_across(s: Shape, input: &[f32], kernel: &[f32], f: FirstTap, out: &mut [f32])
+    requires { ⌜ Fitting s (now input) (now kernel) ⌝ }
+    requires { ⌜ Within s f × (length (now out) ≡ s .x .out) ⌝ }
+    ensures { λ _. ⌜ now (out .exit) ≡ tabulate (λ x. sumFrom plusZero (lineTaps s (now (input .entry)) (now (kernel .entry)) f x) (s .taps)) (s .x .out) ⌝ }
+{
+    start(out, kernel[0]);
+    add_line(s, input, kernel, f, out);
+}
+
+// ---- every row
+
+// The outputs of the row with these first taps. Side by side is not worth its work where few of them have every tap inside the input: in a short row, shorter
+// still with padding, or under a kernel that is longer than the row.
+fn sum_line(s: Shape, input: &[f32], kernel: &[f32], f: FirstTap, out: &mut [f32])
+    requires { ⌜ Fitting s (now input) (now kernel) ⌝ }
+    requires { ⌜ Within s f × (length (now out) ≡ s .x .out) ⌝ }
+    ensures { λ _. ⌜ now (out .exit) ≡ tabulate (λ x. sumFrom plusZero (lineTaps s (now (input .entry)) (now (kernel .entry)) f x) (s .taps)) (s .x .out) ⌝ }
+{
+    let n = s.x.out;
+    let k = s.x.kernel;
+    if (n < 4) | (n < k) | ((s.x.begin != 0) & (n < 8) & (n < k + 3)) {
+        sum_each(s, input, kernel, f, out);
+        return;
+    }
+    sum_across(s, input, kernel, f, out);
+}
+
 // The outputs of one row, of number `line` among all rows.
 fn fill_line(s: Shape, input: &[f32], kernel: &[f32], line: usize, out: &mut [f32])
     requires { ⌜ Fitting s (now input) (now kernel) ⌝ }
     requires { ⌜ (line * s .x .out + s .x .out ≤ s .outputs) × (length (now out) ≡ s .x .out) ⌝ }
     ensures { λ _. ⌜ now (out .exit) ≡ tabulate (λ x. outputOf (placeOf s) (s .taps) (now (input .entry)) (now (kernel .entry)) (line * s .x .out + x)) (s .x .out) ⌝ }
 {
-    start(out, kernel[0]);
     let f = first_tap(s, line * s.x.out);
-    add_line(s, input, kernel, f, out);
+    sum_line(s, input, kernel, f, out);
 }
 
 // Every output, row by row.
-fn fill_lines(s: Shape, input: &[f32], kernel: &[f32], output: &mut [f32])
+fn fill(s: Shape, input: &[f32], kernel: &[f32], output: &mut [f32])
     requires { ⌜ Fitting s (now input) (now kernel) ⌝ }
     requires { ⌜ length (now output) ≡ s .outputs ⌝ }
     ensures { λ _. ⌜ now (output .exit) ≡ outputsOf (placeOf s) (s .taps) (s .outputs) (now (input .entry)) (now (kernel .entry)) ⌝ }
@@ -224,22 +250,6 @@ fn fill_lines(s: Shape, input: &[f32], kernel: &[f32], output: &mut [f32])
         line += 1;
         start = end;
     }
-}
-
-// Every output. A row is not worth its work where few of its outputs have every tap inside the input: a short row, shorter still with padding, or a kernel that is
-// longer than the row.
-fn fill(s: Shape, input: &[f32], kernel: &[f32], output: &mut [f32])
-    requires { ⌜ Fitting s (now input) (now kernel) ⌝ }
-    requires { ⌜ length (now output) ≡ s .outputs ⌝ }
-    ensures { λ _. ⌜ now (output .exit) ≡ outputsOf (placeOf s) (s .taps) (s .outputs) (now (input .entry)) (now (kernel .entry)) ⌝ }
-{
-    let n = s.x.out;
-    let k = s.x.kernel;
-    if (n < 4) | (n < k) | ((s.x.begin != 0) & (n < 8) & (n < k + 3)) {
-        fill_each(s, input, kernel, output);
-        return;
-    }
-    fill_lines(s, input, kernel, output);
 }
 
 // Convolution: checks 1 to 9, and only then every output. No call is asked to be valid: each is answered.

@@ -10,13 +10,13 @@ use Rattle.rows.specs.Rows.{Summed}
 use Rattle.rows.proofs.Rows.{summed-start, summed-row}
 use Rattle.call.specs.Fitting.{rows}
 use Rattle.call.proofs.Products.{products}
-use Rattle.convolution.specs.Rows.{placeFrom, atColumn}
+use Rattle.convolution.specs.Rows.{placeFrom}
 use Rattle.convolution.proofs.add_rows.Statement.{statement}
 use Rattle.convolution.proofs.add_rows.Tie as tie
 
 abbrev Inv-loop : tie.InvT-loop
 Inv-loop s input kernel f q out₀ rows row₀ out row =
-    (row ≤ rows) × Summed (λ x t. tapAt input kernel (placeFrom s (atColumn f (q + x * s .x .stride)) t)) (row * s .x .kernel) (length out₀) out₀ out
+    (row ≤ rows) × Summed (λ x t. tapAt input kernel (placeFrom s f (q + x * s .x .stride) t)) (row * s .x .kernel) (length out₀) out₀ out
 
 abbrev μ-loop : tie.MeasureT-loop
 μ-loop s input kernel f q out₀ rows row₀ out row = rows - row

@@ -1,16 +1,12 @@
--- The sums start at +0 and take all their taps: `line-outputs`.
+-- The sums of the row are its outputs, by the places of their taps: `line-outputs`.
 use borrow.Author.Needs.{needs}
-use mathlib.Core.Path.{_≡_, refl, ap, _∙_}
+use mathlib.Core.Path.{refl, _∙_}
 use Prim.Native.Nat.{_*_, _<_}
 use native.Mathlib.Omega.{arith}
-use lib.ListN.{length}
-use Rattle.tensor.specs.Table.{tabulate}
-use Rattle.tensor.proofs.Table.{tabulate-length}
-use Rattle.call.proofs.Products.{kernel-pos}
 use Rattle.call.proofs.Lines.{line-outputs}
 use Rattle.convolution.specs.Convolution.{placeOf}
 use Rattle.convolution.proofs.Bounds.{output-bounds}
-use Rattle.convolution.proofs.Rows.{line-place}
+use Rattle.convolution.proofs.Places.{place-from-first}
 use Rattle.convolution.proofs.fill_line.Statement.{statement}
 use Rattle.convolution.proofs.fill_line.Tie as tie
 
@@ -18,30 +14,25 @@ use Rattle.convolution.proofs.fill_line.Tie as tie
 first-output : (c : tie.Start) → c .args .line * c .args .s .x .out < c .args .s .outputs
 first-output c = omega (arith, c .pre .1 .0, c .pre .0 .shape .sound .x .out-1)
 
--- the row is as long as it was
-long : (c : tie.After-start) → let a = c .before .before .before .before .before .before in length (c .start .last .0) ≡ a .args .s .x .out
-long c = ap length (c .start .ensures) ∙ tabulate-length _ _ ∙ c .before .before .before .before .before .before .pre .1 .1
+mul-first-tap : tie.Need-mul-first-tap
+mul-first-tap c = let a = c .before .before .before .before in omega (arith, first-output a, a .pre .0 .shape .sound .outputs-max)
 
-add-line-requires : tie.Need-add-line-requires
-add-line-requires c κs =
-    let t = c .before .before .before .before .before in
-    let a = t .before .before .before .before .before .before in
-    (a .pre .0, (rw (c .before .first-tap .ensures) (output-bounds (a .args .s) (a .args .line * a .args .s .x .out) _ (a .pre .0 .shape) (first-output a) refl .within), long t))
+first-tap-requires : tie.Need-first-tap-requires
+first-tap-requires c κs = let a = c .before .before .before .before in (a .pre .0 .shape, first-output a)
+
+sum-line-requires : tie.Need-sum-line-requires
+sum-line-requires c κs =
+    let a = c .before .before .before .before .before .before in
+    (a .pre .0, (rw (c .before .first-tap .ensures) (output-bounds (a .args .s) (a .args .line * a .args .s .x .out) _ (a .pre .0 .shape) (first-output a) refl .within), a .pre .1 .1))
 
 returns : tie.Need-returns
 returns c =
-    let t = c .before .before .before .before .before .before .before .before in
-    let a = t .before .before .before .before .before .before in
-    line-outputs (a .args .s) (placeOf (a .args .s)) _ _ _ (a .args .line) _ (a .pre .0) refl
-    (λ x k p. line-place (a .args .s) _ (a .args .line) x k (a .pre .0 .shape) p (c .before .before .before .before .first-tap .ensures))
-    (t .start .ensures ∙ ap (tabulate _) (a .pre .1 .1)) (rw (long t) at (c .before .before .add-line .ensures))
+    let t = c .before .before .before .before in
+    let a = t .before .before .before .before .before in
+    c .before .before .sum-line .ensures
+    ∙ line-outputs (a .args .s) (placeOf (a .args .s)) _ _ _ (a .args .line) (λ x k p. rw (t .first-tap .ensures) (place-from-first (a .args .s) (a .args .line) k (a .pre .0 .shape) p))
 
 pub fill-line-spec : {M : Type 1} → statement M
 fill-line-spec =
     tie.close
-    (tie.spec
-    (λ c. let a = c .before .before .before .before .before in kernel-pos (a .args .s) _ _ (a .pre .0))
-    (λ c κs. search needs)
-    (λ c. let a = c .before .before .before .before .before .before .before .before .before in omega (arith, first-output a, a .pre .0 .shape .sound .outputs-max))
-    (λ c κs. let a = c .before .before .before .before .before .before .before .before .before in (a .pre .0 .shape, first-output a))
-    add-line-requires (λ c. search needs) returns)
+    (tie.spec mul-first-tap first-tap-requires sum-line-requires (λ c. search needs) returns)

@@ -9,8 +9,8 @@ use Rattle.sums.specs.Taps.{outputOf, outputsOf}
 use Rattle.tensor.proofs.Lines.{LineRoom, line-length, Lines, lines-none, lines-more}
 use Rattle.call.proofs.Lines.{output-room}
 use Rattle.convolution.specs.Convolution.{placeOf}
-use Rattle.convolution.proofs.fill_lines.Statement.{statement}
-use Rattle.convolution.proofs.fill_lines.Tie as tie
+use Rattle.convolution.proofs.fill.Statement.{statement}
+use Rattle.convolution.proofs.fill.Tie as tie
 
 abbrev Inv-loop : tie.InvT-loop
 Inv-loop s input kernel output₀ width line₀ start₀ output line start = Lines (s .x .out) (outputOf (placeOf s) (s .taps) input kernel) (length output₀) output line start
@@ -49,8 +49,8 @@ returns : tie.Need-returns Inv-loop μ-loop
 unfolding outputsOf
 returns c = filled-all _ (c .before .loop .inv .1) (omega arith) ∙ ap (tabulate _) (c .before .before .before .before .before .pre .1)
 
-pub fill-lines-spec : {M : Type 1} → statement M
-fill-lines-spec =
+pub fill-spec : {M : Type 1} → statement M
+fill-spec =
     tie.close
     (tie.spec
     Inv-loop μ-loop loop-holds (λ c. omega (arith, room c, outputs c)) (λ c. omega (arith, room c, outputs c))
