@@ -1,9 +1,9 @@
 -- An output's taps by kernel rows: what `add_row` adds, and `add_row_across` for each output of a row, is what the definition adds.
-use mathlib.Core.Path.{_≡_, refl, sym, ap, _∙_}
+use mathlib.Core.Path.{_≡_, refl, ap, _∙_}
 use mathlib.Core.List.{List, []}
 use mathlib.Core.Bool.{Bool, true, false, _&&_, cond}
-use Prim.Native.Nat.{ℕ, _+_, _-_, _*_, _/_, _%_, _≤_, _<_, zero-le}
-use native.Mathlib.Nat.{add-assoc, add-sub-cancel-left, le-refl, le-trans, add-lt-add-of-le-of-lt}
+use Prim.Native.Nat.{ℕ, _+_, _-_, _*_, _%_, _≤_, _<_, zero-le}
+use native.Mathlib.Nat.{add-assoc, le-refl, le-trans, add-lt-add-of-le-of-lt}
 use native.Mathlib.Omega.{arith}
 use borrow.Author.Tests.{ltb-true}
 use lib.Dec.{leb, ltb}
@@ -11,23 +11,19 @@ use lib.ListN.{length, take, drop, length-take}
 use lib.Ieee.{Float}
 use Rattle.sizes.specs.Taps.{inside}
 use Rattle.shape.specs.declared.Shape.{Shape}
-use Rattle.shape.specs.Facts.{Grouped}
 use Rattle.tensor.specs.Table.{read, plusZero}
 use Rattle.tensor.proofs.Table.{part-length, part-read}
 use Rattle.tensor.proofs.Places.{part-within, place-div, place-mod}
-use Rattle.sums.specs.Taps.{Place, pair, outside, at, tapAt, sumFrom, tapsOf, outputOf}
+use Rattle.sums.specs.Taps.{Place, pair, outside, at, tapAt, sumFrom}
 use Rattle.sums.proofs.Sums.{sum-same}
 use Rattle.rows.specs.Rows.{Summed}
 use Rattle.rows.proofs.Rows.{summed-same}
 use Rattle.padded.specs.Padded.{columnValue, paddedTaps}
 use Rattle.padded.proofs.Values.{row-value, empty-value}
-use Rattle.call.specs.Fitting.{rows}
-use Rattle.tensor.proofs.Lines.{line-start}
-use Rattle.convolution.specs.Convolution.{placeOf}
-use Rattle.convolution.specs.Rows.{paddedPlace, placeFrom, rowPart}
+use Rattle.call.specs.Fitting.{rows, Fitting}
+use Rattle.convolution.specs.Rows.{paddedPlace, placeFrom, rowPart, valuesOf, weightsOf, Within}
 use Rattle.convolution.specs.declared.FirstTap.{FirstTap}
-use Rattle.convolution.proofs.Places.{place-from-first}
-use Rattle.convolution.proofs.Bounds.{RowBounds}
+use Rattle.convolution.proofs.Bounds.{values-bounds, weights-bounds}
 
 -- a tap by what its test says
 tap-value : (input kernel : List Float) (a b : ℕ) (t : Bool) → pair (cond t (read input a) plusZero) (read kernel b) ≡ tapAt input kernel (cond t (at a b) (outside b))
@@ -54,23 +50,17 @@ tap-by-row s input kernel plane p q b h =
     go false false e = empty-value [] _ _ refl
 
 -- one kernel row, of which the parts of the two tensors are at hand
-abbrev pub valuesOf : Shape → List Float → FirstTap → ℕ → List Float
-valuesOf s input f r = rowPart input (f .plane + r / s .y .kernel) (s .y .begin) (s .y .input) (s .x .input) (f .row + r % s .y .kernel * s .y .dilation)
-
-abbrev pub weightsOf : Shape → List Float → FirstTap → ℕ → List Float
-weightsOf s kernel f r = let start = f .weight + r * s .x .kernel in take (start + s .x .kernel - start) (drop start kernel)
-
-module _ (s : Shape) (input kernel : List Float) (f : FirstTap) (r : ℕ) (row weights : List Float) (er : row ≡ valuesOf s input f r) (ew : weights ≡ weightsOf s kernel f r) (b : RowBounds s f r (length input) (length kernel)) where
+module _ (s : Shape) (input kernel : List Float) (f : FirstTap) (r : ℕ) (row weights : List Float) (er : row ≡ valuesOf s input f r) (ew : weights ≡ weightsOf s kernel f r) (h : Fitting s input kernel) (w : Within s f) (l : r < rows s) where
   pub row-weights : length weights ≡ s .x .kernel
-  row-weights = rw (ew, add-sub-cancel-left (f .weight + r * s .x .kernel) (s .x .kernel)) (part-length kernel (f .weight + r * s .x .kernel) (s .x .kernel) (omega arith))
+  row-weights = rw ew (part-length kernel (f .weight + r * s .x .kernel) (s .x .kernel) (weights-bounds s f r (h .shape) (h .kernel-length) w l .end))
 
   -- a tap of it, for an output at any column
   row-tap : (column k : ℕ) → k < s .x .kernel
       → pair (columnValue row (s .x .begin) (column + k * s .x .dilation)) (read weights k) ≡ tapAt input kernel (placeFrom s f column (r * s .x .kernel + k))
   unfolding placeFrom
-  row-tap column k l =
-      rw (er, ew, add-sub-cancel-left (f .weight + r * s .x .kernel) (s .x .kernel), place-div r l, place-mod r l, part-read kernel (f .weight + r * s .x .kernel) (s .x .kernel) k l, add-assoc (f .weight) (r * s .x .kernel) k)
-      (tap-by-row s input kernel _ _ _ _ (b .plane-end))
+  row-tap column k m =
+      rw (er, ew, place-div r m, place-mod r m, part-read kernel (f .weight + r * s .x .kernel) (s .x .kernel) k m, add-assoc (f .weight) (r * s .x .kernel) k)
+      (tap-by-row s input kernel _ _ _ _ (values-bounds s f r (h .shape) (h .input-length) w l .plane-end))
 
   -- its taps, for each of some outputs of a row: that of the first lies at column q
   pub line-taps : (q : ℕ) {n : ℕ} {l o : List Float} → Summed (paddedTaps row weights (s .x .begin) (s .x .stride) (s .x .dilation) q) (length weights) n l o

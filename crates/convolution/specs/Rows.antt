@@ -46,6 +46,13 @@ unfoldable pub rowPart : List Float → ℕ → ℕ → ℕ → ℕ → ℕ → 
 rowPart input plane begin height width p =
     cond (inside begin height p) (take width (drop ((plane * height + (p - begin)) * width) input)) []
 
+-- one kernel row from a first tap on: the row of the input under it, and its weights
+abbrev pub valuesOf : Shape → List Float → FirstTap → ℕ → List Float
+valuesOf s input f r = rowPart input (f .plane + r / s .y .kernel) (s .y .begin) (s .y .input) (s .x .input) (f .row + r % s .y .kernel * s .y .dilation)
+
+abbrev pub weightsOf : Shape → List Float → FirstTap → ℕ → List Float
+weightsOf s kernel f r = take (s .x .kernel) (drop (f .weight + r * s .x .kernel) kernel)
+
 -- first taps whose outputs lie in the tensors with all their taps
 pub record Within (s : Shape) (f : FirstTap) : Type 0 where
   pub plane : f .plane + s .i ≤ s .n * s .c

@@ -21,7 +21,7 @@ ghost use Rattle.rows.specs.Rows.{Summed};
 ghost use Rattle.call.specs.Call.{answerOf, contentsOf, WholeOutputs, FiniteOutputs};
 ghost use Rattle.call.specs.Fitting.{rows, Fitting};
 ghost use Rattle.convolution.specs.Convolution.{placeOf};
-ghost use Rattle.convolution.specs.Rows.{firstTapOf, placeFrom, rowPart, Within, lineTaps};
+ghost use Rattle.convolution.specs.Rows.{firstTapOf, placeFrom, rowPart, valuesOf, weightsOf, Within, lineTaps};
 
 // The first taps of a row of outputs: their plane of the input, their weight, and their row, counted from the start of the padding.
 struct FirstTap {
@@ -53,6 +53,30 @@ fn row_part(
     } else {
         &input[0..0]
     }
+}
+
+// The row of the input under kernel row r of the outputs with these first taps: empty outside the input.
+fn values_of(s: Shape, input: &[f32], f: FirstTap, r: usize) -> &[f32]
+    requires { ⌜ Grouped s × (length (now input) ≡ s .inputs) ⌝ }
+    requires { ⌜ Within s f × (r < rows s) ⌝ }
+    ensures { λ v. ⌜ now v ≡ valuesOf s (now (input .entry)) f r ⌝ }
+{
+    let height = s.y.kernel;
+    let plane = f.plane + r / height;
+    let p = f.row + r % height * s.y.dilation;
+    row_part(input, plane, s.y.begin, s.y.input, s.x.input, p)
+}
+
+// The weights of that kernel row.
+fn weights_of(s: Shape, kernel: &[f32], f: FirstTap, r: usize) -> &[f32]
+    requires { ⌜ Grouped s × (length (now kernel) ≡ s .weights) ⌝ }
+    requires { ⌜ Within s f × (r < rows s) ⌝ }
+    ensures { λ v. ⌜ now v ≡ weightsOf s (now (kernel .entry)) f r ⌝ }
+{
+    let taps = s.x.kernel;
+    let start = f.weight + r * taps;
+    let end = start + taps;
+    &kernel[start..end]
 }
 
 // The first taps of the row of outputs that begins with output number j.
@@ -88,14 +112,9 @@ fn add_row(
     requires { ⌜ (r < rows s) × (q ≤ 1064704) ⌝ }
     ensures { λ v. ⌜ v ≡ sumFrom sum (λ k. tapAt (now (input .entry)) (now (kernel .entry)) (placeFrom s f q (r * s .x .kernel + k))) (s .x .kernel) ⌝ }
 {
-    let height = s.y.kernel;
-    let width = s.x.kernel;
-    let plane = f.plane + r / height;
-    let p = f.row + r % height * s.y.dilation;
-    let row = row_part(input, plane, s.y.begin, s.y.input, s.x.input, p);
-    let start = f.weight + r * width;
-    let end = start + width;
-    kernel_row_sum(sum, row, &kernel[start..end], q, s.x.dilation, s.x.begin)
+    let row = values_of(s, input, f, r);
+    let weights = weights_of(s, kernel, f, r);
+    kernel_row_sum(sum, row, weights, q, s.x.dilation, s.x.begin)
 }
 
 // The output of a row whose first tap lies at column q: kernel row by kernel row.
@@ -145,22 +164,9 @@ fn add_row_across(
     requires { ⌜ (r < rows s) × ((q ≤ 1040) × (length (now out) ≤ s .x .out)) ⌝ }
     ensures { λ _. ⌜ Summed (λ x k. tapAt (now (input .entry)) (now (kernel .entry)) (placeFrom s f (q + x * s .x .stride) (r * s .x .kernel + k))) (s .x .kernel) (length (now (out .entry))) (now (out .entry)) (now (out .exit)) ⌝ }
 {
-    let height = s.y.kernel;
-    let taps = s.x.kernel;
-    let plane = f.plane + r / height;
-    let p = f.row + r % height * s.y.dilation;
-    let row = row_part(input, plane, s.y.begin, s.y.input, s.x.input, p);
-    let start = f.weight + r * taps;
-    let end = start + taps;
-    add_across(
-        out,
-        row,
-        &kernel[start..end],
-        s.x.begin,
-        s.x.stride,
-        s.x.dilation,
-        q,
-    );
+    let row = values_of(s, input, f, r);
+    let weights = weights_of(s, kernel, f, r);
+    add_across(out, row, weights, s.x.begin, s.x.stride, s.x.dilation, q);
 }
 
 // All taps of these outputs: kernel row by kernel row.

@@ -1,0 +1,23 @@
+-- The part lies in the kernel by `weights-bounds`.
+use borrow.Author.Needs.{needs}
+use Prim.Native.Nat.{_+_, _*_}
+use native.Mathlib.Nat.{add-sub-cancel-left}
+use native.Mathlib.Omega.{arith}
+use denote.Ref.{now}
+use lib.ListN.{length}
+use Rattle.convolution.proofs.Bounds.{WeightsBounds, weights-bounds}
+use Rattle.convolution.proofs.weights_of.Statement.{statement}
+use Rattle.convolution.proofs.weights_of.Tie as tie
+
+bounds : (c : tie.Start) → WeightsBounds (c .args .s) (c .args .f) (c .args .r) (length (now (c .args .kernel)))
+bounds c = weights-bounds (c .args .s) (c .args .f) (c .args .r) (c .pre .0 .0) (c .pre .0 .1) (c .pre .1 .0) (c .pre .1 .1)
+
+returns : tie.Need-returns
+returns c = let a = c .before .before .args in rw (add-sub-cancel-left (a .f .weight + a .r * a .s .x .kernel) (a .s .x .kernel))
+
+pub weights-of-spec : {M : Type 1} → statement M
+weights-of-spec =
+    tie.close
+    (tie.spec
+    (λ c. omega (arith, bounds c)) (λ c. omega (arith, bounds (c .before))) (λ c. omega (arith, bounds (c .before))) (λ c. omega (arith, bounds (c .before)))
+    (λ c. search needs) (λ c. search needs) (λ c. omega (arith, bounds (c .before))) returns)
