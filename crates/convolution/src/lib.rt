@@ -215,8 +215,8 @@ fn sum_across(s: Shape, input: &[f32], kernel: &[f32], f: FirstTap, out: &mut [f
 
 // ---- every row
 
-// The outputs of the row with these first taps. Side by side is not worth its work where few of them have every tap inside the input: in a short row, shorter
-// still with padding, or under a kernel that is longer than the row.
+// The outputs of the row with these first taps. Side by side is not worth its work in a short row: one of fewer than four outputs, of fewer than six with padding,
+// of fewer than eight under a kernel of more than three taps, or of fewer than its taps.
 fn sum_line(s: Shape, input: &[f32], kernel: &[f32], f: FirstTap, out: &mut [f32])
     requires { ⌜ Fitting s (now input) (now kernel) ⌝ }
     requires { ⌜ Within s f × (length (now out) ≡ s .x .out) ⌝ }
@@ -224,7 +224,7 @@ fn sum_line(s: Shape, input: &[f32], kernel: &[f32], f: FirstTap, out: &mut [f32
 {
     let n = s.x.out;
     let k = s.x.kernel;
-    if (n < 4) | (n < k) | ((s.x.begin != 0) & (n < 8) & (n < k + 3)) {
+    if (n < 4) | ((n < 6) & (s.x.begin != 0)) | ((n < 8) & (3 < k)) | (n < k) {
         sum_each(s, input, kernel, f, out);
         return;
     }
