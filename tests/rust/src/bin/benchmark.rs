@@ -62,6 +62,9 @@ const CASES: &[Case] = &[
     (MaxPool, [16, 128, 128, 1, 5, 2, 1, 0], ""),
 ];
 
+/// How often the benchmark goes over all calls: a slow phase of the machine outlasts the turns of one call, but not the whole table.
+const PASSES: usize = 4;
+
 type Run = (&'static str, fn(&Call, &mut Outputs));
 
 /// What is timed. Pooling goes without the limit.
@@ -69,12 +72,19 @@ const RUNS: [Run; 5] = [("library", library), ("plain Rust", plain_rust), ("C -O
 
 /// The best times of a call, in milliseconds, in the order of RUNS.
 struct Measured {
-    op: Op,
+    call: Call,
     name: String,
     times: Vec<f64>,
 }
 
 impl Measured {
+    fn new(case: &Case) -> Self {
+        let call = call(case);
+        let name = name(&show_sheet(&call.layer), case);
+        let runs = if case.0 == MaxPool { RUNS.len() - 1 } else { RUNS.len() };
+        Measured { call, name, times: vec![f64::INFINITY; runs] }
+    }
+
     fn ratio(&self) -> f64 {
         self.times[0] / self.times[1]
     }
@@ -120,16 +130,16 @@ fn library(call: &Call, out: &mut Outputs) {
     assert_eq!(answer.number, 0);
 }
 
-/// The best of at least seven runs each, and of more where they are short. They take turns, so that a slow moment of the machine hits all alike. Outputs are
-/// spoiled before each run, and compared with the library's after the first.
-fn best(call: &Call, name: &str) -> Vec<f64> {
-    let pool = call.layer.op == MaxPool;
+/// At least seven runs each, and more where they are short. They take turns, so that a slow moment of the machine hits all alike. Outputs are spoiled before
+/// each run, and compared with the library's after the first.
+fn measure(m: &mut Measured) {
+    let (call, name) = (&m.call, &m.name);
     let outputs = call.shape.outputs as usize;
-    let spoiled = Outputs { values: vec![f32::NAN; outputs], indices: vec![-1; if pool { outputs } else { 0 }] };
+    let indices = if call.layer.op == MaxPool { outputs } else { 0 };
+    let spoiled = Outputs { values: vec![f32::NAN; outputs], indices: vec![-1; indices] };
     let (mut expected, mut out) = (spoiled.clone(), spoiled.clone());
     library(call, &mut expected);
-    let runs = if pool { &RUNS[..4] } else { &RUNS[..] };
-    let mut times = vec![f64::INFINITY; runs.len()];
+    let runs = &RUNS[..m.times.len()];
     let (start, mut turns) = (Instant::now(), 0);
     while turns < 7 || start.elapsed() < Duration::from_millis(200) {
         for k in 0..runs.len() {
@@ -139,30 +149,25 @@ fn best(call: &Call, name: &str) -> Vec<f64> {
             out.clone_from(&spoiled);
             let start = Instant::now();
             run(call, &mut out);
-            times[at] = times[at].min(start.elapsed().as_secs_f64() * 1000.0);
+            m.times[at] = m.times[at].min(start.elapsed().as_secs_f64() * 1000.0);
             assert!(turns > 0 || same(&out, &expected), "{what}: other outputs than the library's in {name}");
         }
         turns += 1;
     }
-    times
 }
 
 fn same(a: &Outputs, b: &Outputs) -> bool {
     a.values.iter().zip(&b.values).all(|(x, y)| x.to_bits() == y.to_bits()) && a.indices == b.indices
 }
 
-/// Measures a case and prints its line of the table.
-fn measure(case: &Case) -> Measured {
-    let call = call(case);
-    let name = name(&show_sheet(&call.layer), case);
-    let m = Measured { op: case.0, times: best(&call, &name), name };
-    let mut cells = vec![m.name.clone(), call.shape.taps.to_string(), call.shape.outputs.to_string()];
+/// A line of the table.
+fn print(m: &Measured) {
+    let mut cells = vec![m.name.clone(), m.call.shape.taps.to_string(), m.call.shape.outputs.to_string()];
     cells.extend(m.times.iter().map(|t| format!("{t:.3}")));
     cells.resize(3 + RUNS.len(), "-".to_string());
     cells.push(format!("{:.2}", m.ratio()));
     cells.push(m.share().map_or("-".to_string(), |s| format!("{s:.0} %")));
     println!("| {} |", cells.join(" | "));
-    m
 }
 
 /// The worst of some calls: the largest ratio, and the smallest share of the limit where there is one.
@@ -179,10 +184,14 @@ fn main() {
     let times = RUNS.map(|(what, _)| format!("{what}, ms")).join(" | ");
     println!("| call | taps | outputs | {times} | library / plain Rust | limit / library |");
     println!("|---|---|---|---|---|---|---|---|---|---|");
-    let measured: Vec<Measured> = CASES.iter().map(measure).collect();
+    let mut measured: Vec<Measured> = CASES.iter().map(Measured::new).collect();
+    for _ in 0..PASSES {
+        measured.iter_mut().for_each(measure);
+    }
+    measured.iter().for_each(print);
     println!();
     worst("all", measured.iter());
     for (op, what) in [(Convolution, "convolution"), (Transposed, "transposed"), (MaxPool, "maxpool")] {
-        worst(what, measured.iter().filter(|m| m.op == op));
+        worst(what, measured.iter().filter(|m| m.call.layer.op == op));
     }
 }
