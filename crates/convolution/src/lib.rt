@@ -15,7 +15,7 @@ ghost use mathlib.Core.Path.{_≡_};
 ghost use Prim.Native.Nat.{_+_, _*_, _≤_, _<_};
 ghost use lib.ListN.{length};
 ghost use Rattle.shape.specs.Facts.{Grouped};
-ghost use Rattle.tensor.specs.Table.{plusZero, tabulate};
+ghost use Rattle.tensor.specs.Table.{tabulate};
 ghost use Rattle.sums.specs.Taps.{tapAt, sumFrom, outputOf, outputsOf};
 ghost use Rattle.rows.specs.Rows.{Summed};
 ghost use Rattle.call.specs.Call.{answerOf, contentsOf, WholeOutputs, FiniteOutputs};
@@ -117,14 +117,14 @@ fn add_row(
     kernel_row_sum(sum, row, weights, q, s.x.dilation, s.x.begin)
 }
 
-// The output of a row whose first tap lies at column q: kernel row by kernel row.
-fn output_sum(s: Shape, input: &[f32], kernel: &[f32], f: FirstTap, q: usize) -> f32
+// The sum so far, and then all taps of the output whose first tap lies at column q: kernel row by kernel row.
+fn add_rows(s: Shape, input: &[f32], kernel: &[f32], f: FirstTap, q: usize, start: f32) -> f32
     requires { ⌜ Fitting s (now input) (now kernel) ⌝ }
     requires { ⌜ Within s f × (q ≤ 1064704) ⌝ }
-    ensures { λ v. ⌜ v ≡ sumFrom plusZero (λ t. tapAt (now (input .entry)) (now (kernel .entry)) (placeFrom s f q t)) (s .taps) ⌝ }
+    ensures { λ v. ⌜ v ≡ sumFrom start (λ t. tapAt (now (input .entry)) (now (kernel .entry)) (placeFrom s f q t)) (s .taps) ⌝ }
 {
     let rows = s.i * s.y.kernel;
-    let mut sum = 0.0;
+    let mut sum = start;
     let mut r = 0;
     while r < rows {
         sum = add_row(s, input, kernel, f, r, q, sum);
@@ -133,16 +133,16 @@ fn output_sum(s: Shape, input: &[f32], kernel: &[f32], f: FirstTap, q: usize) ->
     sum
 }
 
-// The outputs of the row with these first taps, one after another.
-fn sum_each(s: Shape, input: &[f32], kernel: &[f32], f: FirstTap, out: &mut [f32])
+// All taps of each output of the row with these first taps, one output after another.
+fn add_line_each(s: Shape, input: &[f32], kernel: &[f32], f: FirstTap, out: &mut [f32])
     requires { ⌜ Fitting s (now input) (now kernel) ⌝ }
     requires { ⌜ Within s f × (length (now out) ≡ s .x .out) ⌝ }
-    ensures { λ _. ⌜ now (out .exit) ≡ tabulate (λ x. sumFrom plusZero (lineTaps s (now (input .entry)) (now (kernel .entry)) f x) (s .taps)) (s .x .out) ⌝ }
+    ensures { λ _. ⌜ Summed (lineTaps s (now (input .entry)) (now (kernel .entry)) f) (s .taps) (length (now (out .entry))) (now (out .entry)) (now (out .exit)) ⌝ }
 {
     let stride = s.x.stride;
     let mut x = 0;
     while x < out.len() {
-        out[x] = output_sum(s, input, kernel, f, x * stride);
+        out[x] = add_rows(s, input, kernel, f, x * stride, out[x]);
         x += 1;
     }
 }
@@ -170,7 +170,7 @@ fn add_row_across(
 }
 
 // All taps of these outputs: kernel row by kernel row.
-fn add_rows(s: Shape, input: &[f32], kernel: &[f32], f: FirstTap, q: usize, out: &mut [f32])
+fn add_rows_across(s: Shape, input: &[f32], kernel: &[f32], f: FirstTap, q: usize, out: &mut [f32])
     requires { ⌜ Fitting s (now input) (now kernel) ⌝ }
     requires { ⌜ Within s f ⌝ }
     requires { ⌜ (q ≤ 1040) × (length (now out) ≤ s .x .out) ⌝ }
@@ -184,8 +184,8 @@ fn add_rows(s: Shape, input: &[f32], kernel: &[f32], f: FirstTap, q: usize, out:
     }
 }
 
-// All taps of each output of the row with these first taps. The outputs before lo and from hi on have every tap outside the input's columns.
-fn add_line(s: Shape, input: &[f32], kernel: &[f32], f: FirstTap, out: &mut [f32])
+// All taps of each output of the row with these first taps, side by side. The outputs before lo and from hi on have every tap outside the input's columns.
+fn add_line_across(s: Shape, input: &[f32], kernel: &[f32], f: FirstTap, out: &mut [f32])
     requires { ⌜ Fitting s (now input) (now kernel) ⌝ }
     requires { ⌜ Within s f × (length (now out) ≡ s .x .out) ⌝ }
     ensures { λ _. ⌜ Summed (lineTaps s (now (input .entry)) (now (kernel .entry)) f) (s .taps) (length (now (out .entry))) (now (out .entry)) (now (out .exit)) ⌝ }
@@ -199,36 +199,26 @@ fn add_line(s: Shape, input: &[f32], kernel: &[f32], f: FirstTap, out: &mut [f32
     let to = from + s.taps;
     let weights = &kernel[from..to];
     add_outside(&mut out[0..lo], weights);
-    add_rows(s, input, kernel, f, lo * stride, &mut out[lo..hi]);
+    add_rows_across(s, input, kernel, f, lo * stride, &mut out[lo..hi]);
     add_outside(&mut out[hi..n], weights);
-}
-
-// The outputs of the row with these first taps, side by side.
-fn sum_across(s: Shape, input: &[f32], kernel: &[f32], f: FirstTap, out: &mut [f32])
-    requires { ⌜ Fitting s (now input) (now kernel) ⌝ }
-    requires { ⌜ Within s f × (length (now out) ≡ s .x .out) ⌝ }
-    ensures { λ _. ⌜ now (out .exit) ≡ tabulate (λ x. sumFrom plusZero (lineTaps s (now (input .entry)) (now (kernel .entry)) f x) (s .taps)) (s .x .out) ⌝ }
-{
-    start(out, kernel[0]);
-    add_line(s, input, kernel, f, out);
 }
 
 // ---- every row
 
-// The outputs of the row with these first taps. Side by side is not worth its work in a short row: one of fewer than four outputs, of fewer than six with padding,
-// of fewer than eight under a kernel of more than three taps, or of fewer than its taps.
-fn sum_line(s: Shape, input: &[f32], kernel: &[f32], f: FirstTap, out: &mut [f32])
+// All taps of each output of the row with these first taps. Side by side is not worth its work in a short row: one of fewer than four outputs, of fewer than six
+// with padding, of fewer than eight under a kernel of more than three taps, or of fewer than its taps.
+fn add_line(s: Shape, input: &[f32], kernel: &[f32], f: FirstTap, out: &mut [f32])
     requires { ⌜ Fitting s (now input) (now kernel) ⌝ }
     requires { ⌜ Within s f × (length (now out) ≡ s .x .out) ⌝ }
-    ensures { λ _. ⌜ now (out .exit) ≡ tabulate (λ x. sumFrom plusZero (lineTaps s (now (input .entry)) (now (kernel .entry)) f x) (s .taps)) (s .x .out) ⌝ }
+    ensures { λ _. ⌜ Summed (lineTaps s (now (input .entry)) (now (kernel .entry)) f) (s .taps) (length (now (out .entry))) (now (out .entry)) (now (out .exit)) ⌝ }
 {
     let n = s.x.out;
     let k = s.x.kernel;
     if (n < 4) | ((n < 6) & (s.x.begin != 0)) | ((n < 8) & (3 < k)) | (n < k) {
-        sum_each(s, input, kernel, f, out);
+        add_line_each(s, input, kernel, f, out);
         return;
     }
-    sum_across(s, input, kernel, f, out);
+    add_line_across(s, input, kernel, f, out);
 }
 
 // The outputs of one row, of number `line` among all rows.
@@ -237,8 +227,9 @@ fn fill_line(s: Shape, input: &[f32], kernel: &[f32], line: usize, out: &mut [f3
     requires { ⌜ (line * s .x .out + s .x .out ≤ s .outputs) × (length (now out) ≡ s .x .out) ⌝ }
     ensures { λ _. ⌜ now (out .exit) ≡ tabulate (λ x. outputOf (placeOf s) (s .taps) (now (input .entry)) (now (kernel .entry)) (line * s .x .out + x)) (s .x .out) ⌝ }
 {
+    start(out, kernel[0]);
     let f = first_tap(s, line * s.x.out);
-    sum_line(s, input, kernel, f, out);
+    add_line(s, input, kernel, f, out);
 }
 
 // Every output, row by row.

@@ -10,8 +10,8 @@ use denote.Ref.{now}
 use Rattle.rows.proofs.Rows.{summed-none}
 use Rattle.padded.proofs.Groups.{columns-before}
 use Rattle.convolution.proofs.Lines.{LineParts, line-parts, outside-part, rows-part}
-use Rattle.convolution.proofs.add_line.Statement.{statement}
-use Rattle.convolution.proofs.add_line.Tie as tie
+use Rattle.convolution.proofs.add_line_across.Statement.{statement}
+use Rattle.convolution.proofs.add_line_across.Tie as tie
 
 -- numbers of the axis and of the kernel
 numbers : (c : tie.Start) → let s = c .args .s in ((s .x .kernel - 1) * s .x .dilation ≤ 1024) × ((c .args .f .weight + s .taps ≤ length (now (c .args .kernel))) × (length (now (c .args .kernel)) ≤ 16777216))
@@ -25,8 +25,8 @@ parts c =
     let a = c .before .before .before .before .before .before .before .before in
     line-parts (a .args .s .x) (a .pre .0 .shape .sound .x) (a .pre .1 .1) (omega arith) (omega arith) (columns-before (a .pre .0 .shape .sound .x .stride-1) (c .before .before .columns-before .ensures)) (columns-before (a .pre .0 .shape .sound .x .stride-1) (c .columns-before2 .ensures))
 
-add-rows-requires : tie.Need-add-rows-requires
-add-rows-requires c κs =
+add-rows-across-requires : tie.Need-add-rows-across-requires
+add-rows-across-requires c κs =
     let b = c .before .before .before .before .before .before .before in
     let a = b .before .before .before .before .before .before .before .before in
     (a .pre .0, (a .pre .1 .0, (omega (arith, parts b .small), rw length-take (omega (arith, parts b .most)))))
@@ -46,11 +46,11 @@ returns c =
     (rows-part (a .args .s) (now (a .args .input)) (now (a .args .kernel)) (a .args .f) out lo hi (omega arith) (p .order) (omega (arith, p .most))
     (outside 0 lo _ _ (omega arith) (omega (arith, p .order, p .most)) w (λ x t l m. p .left x t m) (summed-none _ _ _)
     (c .before .before .before .before .before .before .before .before .before .before .add-outside .ensures) (c .before .before .before .before .before .before .before .before .before .out .given .1))
-    (c .before .before .before .before .before .before .add-rows .ensures) (c .before .before .before .before .before .out2 .given .1))
+    (c .before .before .before .before .before .before .add-rows-across .ensures) (c .before .before .before .before .before .out2 .given .1))
     (c .before .before .add-outside2 .ensures) (c .before .out3 .given .1)
 
-pub add-line-spec : {M : Type 1} → statement M
-add-line-spec =
+pub add-line-across-spec : {M : Type 1} → statement M
+add-line-across-spec =
     tie.close
     (tie.spec
     (λ c. search needs) (λ c. omega (arith, numbers (c .before .before .before .before .before))) (λ c κs. search needs)
@@ -63,6 +63,6 @@ add-line-spec =
     (λ c. omega (arith, parts (c .before .before .before .before .before .before)))
     (λ c. omega (arith, parts (c .before .before .before .before .before .before)))
     (λ c. parts (c .before .before .before .before .before .before) .order)
-    (λ c. parts (c .before .before .before .before .before .before) .order) (λ c. search needs) add-rows-requires
+    (λ c. parts (c .before .before .before .before .before .before) .order) (λ c. search needs) add-rows-across-requires
     (λ c. omega (arith, parts (c .before .before .before .before .before .before .before .before .before .before)))
     (λ c. search needs) (λ c. search needs) (λ c. search needs) (λ c κs. search needs) (λ c. search needs) returns)
