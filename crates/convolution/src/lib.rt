@@ -205,16 +205,13 @@ fn add_line_across(s: Shape, input: &[f32], kernel: &[f32], f: FirstTap, out: &m
 
 // ---- every row
 
-// All taps of each output of the row with these first taps. Side by side is not worth its work in a short row: one of fewer than four outputs, of fewer than six
-// with padding, of fewer than eight under a kernel of more than three taps, or of fewer than its taps.
+// All taps of each output of the row with these first taps. In a row of fewer than four outputs side by side is not worth its work.
 fn add_line(s: Shape, input: &[f32], kernel: &[f32], f: FirstTap, out: &mut [f32])
     requires { ⌜ Fitting s (now input) (now kernel) ⌝ }
     requires { ⌜ Within s f × (length (now out) ≡ s .x .out) ⌝ }
     ensures { λ _. ⌜ Summed (lineTaps s (now (input .entry)) (now (kernel .entry)) f) (s .taps) (length (now (out .entry))) (now (out .entry)) (now (out .exit)) ⌝ }
 {
-    let n = s.x.out;
-    let k = s.x.kernel;
-    if (n < 4) | ((n < 6) & (s.x.begin != 0)) | ((n < 8) & (3 < k)) | (n < k) {
+    if out.len() < 4 {
         add_line_each(s, input, kernel, f, out);
         return;
     }

@@ -117,12 +117,12 @@ fn add_each(
     dilation: usize,
     q: usize,
 )
-    requires { ⌜ (length (now weights) ≤ 64) × ((dilation ≤ 16) × (q + length (now out) * stride ≤ 1066768)) ⌝ }
+    requires { ⌜ (length (now weights) ≤ 64) × ((dilation ≤ 16) × ((q + length (now out) * stride ≤ 1066768) × (begin ≤ 1024))) ⌝ }
     ensures { λ _. ⌜ Summed (paddedTaps (now (row .entry)) (now (weights .entry)) begin stride dilation q) (length (now (weights .entry))) (length (now (out .entry))) (now (out .entry)) (now (out .exit)) ⌝ }
 {
     let mut x = 0;
     while x < out.len() {
-        out[x] = padded_row_sum(out[x], row, weights, q + x * stride, dilation, begin);
+        out[x] = row_taps_sum(out[x], row, weights, q + x * stride, dilation, begin);
         x += 1;
     }
 }
@@ -205,7 +205,7 @@ fn add_kernel_row(
     }
 }
 
-// The same. The input's row is empty outside the input.
+// The same. The input's row is empty outside the input. In a short row few outputs have all taps inside, so its outputs are taken one by one.
 fn add_row(
     out: &mut [f32],
     row: &[f32],
@@ -221,6 +221,10 @@ fn add_row(
 {
     if row.len() == 0 {
         add_outside(out, weights);
+        return;
+    }
+    if out.len() < 8 {
+        add_each(out, row, weights, begin, stride, dilation, q);
         return;
     }
     add_kernel_row(out, row, weights, begin, stride, dilation, q);

@@ -1,4 +1,4 @@
--- Invariant: the first x outputs have the taps. One turn is one output more, by what `padded_row_sum` ensures.
+-- Invariant: the first x outputs have the taps. One turn is one output more, by what `row_taps_sum` ensures.
 use borrow.Author.Needs.{needs}
 use mathlib.Core.Path.{_≡_}
 use Prim.Native.Nat.{_+_, _*_, _-_, _≤_}
@@ -30,7 +30,7 @@ loop-again : tie.Need-loop-again Inv-loop μ-loop
 loop-again c =
     let l = c .before .before .before .loop in
     let h = l .inv .1 .kept in
-    (omega arith, summed-next _ _ (l .inv .1) (omega arith) (c .padded-row-sum .ensures))
+    (omega arith, summed-next _ _ (l .inv .1) (omega arith) (c .row-taps-sum .ensures))
 
 returns : tie.Need-returns Inv-loop μ-loop
 returns c =

@@ -21,7 +21,7 @@ add-each-requires-2 : tie.Need-add-each-requires-2
 add-each-requires-2 c κs =
     let e = c .before in
     let a = e .before .before .before .before .before .before in
-    (search needs, (search needs, part-small (a .args .q) (a .args .stride) (e .before .before .columns-before .result - 0) (length (a .args .out .now)) _ (omega (arith, parts e)) (parts e .small .end)))
+    (search needs, (search needs, (part-small (a .args .q) (a .args .stride) (e .before .before .columns-before .result - 0) (length (a .args .out .now)) _ (omega (arith, parts e)) (parts e .small .end), search needs)))
 
 add-each-requires-3 : tie.Need-add-each-requires-3
 add-each-requires-3 c κs =
@@ -29,7 +29,7 @@ add-each-requires-3 c κs =
     let a = e .before .before .before .before .before .before in
     let hi = e .before .columns-before2 .result in
     let w = length (a .args .out .now) - hi in
-    (search needs, (search needs, part-small (a .args .q + hi * a .args .stride) (a .args .stride) w w _ (le-refl w) (omega (arith, parts e))))
+    (search needs, (search needs, (part-small (a .args .q + hi * a .args .stride) (a .args .stride) w w _ (le-refl w) (omega (arith, parts e)), search needs)))
 
 returns-2 : tie.Need-returns-2
 returns-2 c =
