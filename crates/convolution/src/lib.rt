@@ -205,13 +205,13 @@ fn add_line_across(s: Shape, input: &[f32], kernel: &[f32], f: FirstTap, out: &m
 
 // ---- every row
 
-// All taps of each output of the row with these first taps. In a row of fewer than four outputs side by side is not worth its work.
+// All taps of each output of the row with these first taps. In a row of one or two outputs side by side is not worth its work.
 fn add_line(s: Shape, input: &[f32], kernel: &[f32], f: FirstTap, out: &mut [f32])
     requires { ⌜ Fitting s (now input) (now kernel) ⌝ }
     requires { ⌜ Within s f × (length (now out) ≡ s .x .out) ⌝ }
     ensures { λ _. ⌜ Summed (lineTaps s (now (input .entry)) (now (kernel .entry)) f) (s .taps) (length (now (out .entry))) (now (out .entry)) (now (out .exit)) ⌝ }
 {
-    if out.len() < 4 {
+    if out.len() < 3 {
         add_line_each(s, input, kernel, f, out);
         return;
     }
