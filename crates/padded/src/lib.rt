@@ -205,7 +205,7 @@ fn add_kernel_row(
     }
 }
 
-// The same. The input's row is empty outside the input. In a short row few outputs have all taps inside, so its outputs are taken one by one.
+// The same. The input's row is empty outside the input. The outputs of a short row are taken one by one.
 fn add_row(
     out: &mut [f32],
     row: &[f32],
