@@ -9,7 +9,7 @@ use native.Mathlib.Omega.{arith}
 use lib.ListN.{length, length-append, set, take, getD}
 use lib.Seq.{sets, length-sets, set-out, take-suc, take-all}
 use Rattle.text.specs.Numbers.{decimal}
-use Rattle.text.specs.Lists.{showNumbers, laterItems}
+use Rattle.text.specs.Lists.{shown, showNumbers, laterItems}
 use Rattle.text.specs.Put.{Put, placeAfter}
 use Rattle.text.specs.declared.Five.{Five}
 use Rattle.text.proofs.NumberLaws.{lt-or-le}
@@ -51,7 +51,7 @@ module _ {l m : List ℕ} {at k : ℕ} {a : List ℕ} where
 pub byte-out : (l : List ℕ) (at b r : ℕ) → length l < 9223372036854775808 → r ≡ placeAfter at 1 → length l ≤ at → Put l at (b ∷ []) r l
 byte-out l at b r h e o = record { next-is = e; left-is = sym (set-out l at b o); room = h }
 
--- ---- the steps of put_text and put_numbers
+-- ---- the steps of put_text and put_shown
 pub put-none : (l : List ℕ) (at : ℕ) → at ≤ 18446744073709551615 → length l < 9223372036854775808 → Put l at [] at l
 put-none l at f h = record { next-is = omega arith; left-is = refl; room = h }
 
@@ -62,17 +62,29 @@ text-step l m e s at k i r p h q = rw (add-one, take-suc s i 0 h) (put-then p q)
 pub text-end : (l m s : List ℕ) (at k i : ℕ) → Put l at (take i s) k m → length s ≤ i → Put l at s k m
 text-end l m s at k i p h = rw (take-all i s h) at p
 
-pub show-none : (n : ℕ) (f : Five) → n ≡ 0 → showNumbers n f ≡ []
-unfolding showNumbers
+pub show-none : (n : ℕ) (f : Five) → n ≡ 0 → shown n f ≡ []
+unfolding shown
 show-none n f e = rw e
 
-pub show-one : (n : ℕ) (f : Five) → n ≡ 1 → showNumbers n f ≡ decimal (f .a)
-unfolding showNumbers
+pub show-one : (n : ℕ) (f : Five) → n ≡ 1 → shown n f ≡ decimal (f .a)
+unfolding shown
 show-one n f e = rw e
 
 pub show-more : (n : ℕ) (f : Five) → (n ≡ 0 → ⊥) → (n ≡ 1 → ⊥)
-    → showNumbers n f ≡ decimal (f .a) ++ (44 ∷ showNumbers (n - 1) (laterItems f))
-unfolding showNumbers
+    → shown n f ≡ decimal (f .a) ++ (44 ∷ shown (n - 1) (laterItems f))
+unfolding shown
 show-more zero f p q = absurd (p refl)
 show-more (suc zero) f p q = absurd (q refl)
 show-more (suc (suc k)) f p q = rw (sub-one (suc (suc k)))
+
+-- ---- up to five numbers
+pub show-up-to-5 : (n : ℕ) (f : Five) → n ≤ 5 → showNumbers n f ≡ shown n f
+unfolding showNumbers
+show-up-to-5 n f h = let e : min n 5 ≡ n = omega arith in rw e
+
+pub show-all-5 : (n : ℕ) (f : Five) → 5 < n → showNumbers n f ≡ shown 5 f
+unfolding showNumbers
+show-all-5 n f h = let e : min n 5 ≡ 5 = omega arith in rw e
+
+pub show-1 : (f : Five) → showNumbers 1 f ≡ decimal (f .a)
+show-1 f = show-up-to-5 1 f (omega arith) ∙ show-one 1 f refl

@@ -1,9 +1,9 @@
 -- Lists of numbers with a comma between two, up to five.
-use Prim.Native.Nat.{ℕ, zero, suc}
+use Prim.Native.Nat.{ℕ, zero, suc, min}
 use mathlib.Core.List.{List, [], _∷_, _++_}
 use mathlib.Core.Bool.{cond}
 use mathlib.Core.Option.{Option, some, none}
-use lib.Dec.{ltb}
+use lib.Dec.{leb, ltb}
 use lib.ListN.{length, take, drop}
 use Rattle.text.specs.Texts.{place}
 use Rattle.text.specs.Numbers.{number, decimal}
@@ -31,19 +31,27 @@ oneMore (some x) none = none
 oneMore (some x) (some f) = some (moreItem x f)
 
 -- the list of so many numbers that a whole text spells: the first ends at the first comma
-unfoldable pub numbers : ℕ → List ℕ → Option Five
-numbers zero t = none
-numbers (suc zero) t = lastNumber (number t)
-numbers (suc (suc k)) t =
+unfoldable pub spelled : ℕ → List ℕ → Option Five
+spelled zero t = none
+spelled (suc zero) t = lastNumber (number t)
+spelled (suc (suc k)) t =
     cond (ltb (place 44 t) (length t))
-    (oneMore (number (take (place 44 t) t)) (numbers (suc k) (drop (suc (place 44 t)) t)))
+    (oneMore (number (take (place 44 t) t)) (spelled (suc k) (drop (suc (place 44 t)) t)))
     none
 
+-- a list of more than five is none
+unfoldable pub numbers : ℕ → List ℕ → Option Five
+numbers count t = cond (leb count 5) (spelled count t) none
+
 -- the text of so many of the numbers
+unfoldable pub shown : ℕ → Five → List ℕ
+shown zero f = []
+shown (suc zero) f = decimal (f .a)
+shown (suc (suc k)) f = decimal (f .a) ++ (44 ∷ shown (suc k) (laterItems f))
+
+-- at most the five that there are
 unfoldable pub showNumbers : ℕ → Five → List ℕ
-showNumbers zero f = []
-showNumbers (suc zero) f = decimal (f .a)
-showNumbers (suc (suc k)) f = decimal (f .a) ++ (44 ∷ showNumbers (suc k) (laterItems f))
+showNumbers count f = shown (min count 5) f
 
 -- what the code's answer says
 abbrev pub numbersRead : Numbers → Option Five

@@ -1,9 +1,10 @@
 // Bytes as text: numbers, words, lists of numbers and lines with a key, read from lent bytes and written into a lent buffer.
+ghost use Prim.Native.Nat.{_≤_};
 ghost use mathlib.Core.Path.{_≡_};
 ghost use mathlib.Core.List.{[], _∷_};
 ghost use Rattle.text.specs.Texts.{place, startsWith, same, part};
 ghost use Rattle.text.specs.Numbers.{number, numberRead, inRange, digits, decimal};
-ghost use Rattle.text.specs.Lists.{numbers, numbersRead, showNumbers};
+ghost use Rattle.text.specs.Lists.{spelled, numbers, numbersRead, shown, showNumbers};
 ghost use Rattle.text.specs.Lines.{line, valueAt, showLine};
 ghost use Rattle.text.specs.Put.{Put, placeAfter};
 
@@ -142,9 +143,10 @@ pub fn read_number(t: &[u8]) -> Number
     read_digits(t)
 }
 
-// The list of so many numbers that a whole text spells.
-pub fn read_numbers(t: &[u8], count: usize) -> Numbers
-    ensures { λ r. ⌜ numbersRead r ≡ numbers count (now (t .entry)) ⌝ }
+// The list of so many numbers that a whole text spells: the first, then the others.
+fn spelled_numbers(t: &[u8], count: usize) -> Numbers
+    requires { ⌜ count ≤ 5 ⌝ }
+    ensures { λ r. ⌜ numbersRead r ≡ spelled count (now (t .entry)) ⌝ }
 {
     if count == 0 {
         return Numbers::NoNumbers;
@@ -168,7 +170,7 @@ pub fn read_numbers(t: &[u8], count: usize) -> Numbers
     let Number::Value(x) = read_number(&t[..comma]) else {
         return Numbers::NoNumbers;
     };
-    let Numbers::These(f) = read_numbers(&t[comma + 1..], count - 1) else {
+    let Numbers::These(f) = spelled_numbers(&t[comma + 1..], count - 1) else {
         return Numbers::NoNumbers;
     };
     Numbers::These(Five {
@@ -178,6 +180,16 @@ pub fn read_numbers(t: &[u8], count: usize) -> Numbers
         d: f.c,
         e: f.d,
     })
+}
+
+// The list of so many numbers, up to five, that a whole text spells.
+pub fn read_numbers(t: &[u8], count: usize) -> Numbers
+    ensures { λ r. ⌜ numbersRead r ≡ numbers count (now (t .entry)) ⌝ }
+{
+    if 5 < count {
+        return Numbers::NoNumbers;
+    }
+    spelled_numbers(t, count)
 }
 
 // The value that starts at a place: up to the line's end.
@@ -252,9 +264,10 @@ pub fn put_number(buf: &mut [u8], at: usize, n: u32) -> usize
     put_byte(buf, next, (48 + n % 10) as u8)
 }
 
-// So many of the numbers, with a comma between two.
-pub fn put_numbers(buf: &mut [u8], at: usize, count: usize, f: Five) -> usize
-    ensures { λ r. ⌜ Put (now (buf .entry)) at (showNumbers count f) r (now (buf .exit)) ⌝ }
+// So many of the numbers, with a comma between two: the first, then the others.
+fn put_shown(buf: &mut [u8], at: usize, count: usize, f: Five) -> usize
+    requires { ⌜ count ≤ 5 ⌝ }
+    ensures { λ r. ⌜ Put (now (buf .entry)) at (shown count f) r (now (buf .exit)) ⌝ }
 {
     if count == 0 {
         return at;
@@ -264,7 +277,7 @@ pub fn put_numbers(buf: &mut [u8], at: usize, count: usize, f: Five) -> usize
         return next;
     }
     let comma = put_byte(buf, next, 44);
-    put_numbers(
+    put_shown(
         buf,
         comma,
         count - 1,
@@ -276,6 +289,16 @@ pub fn put_numbers(buf: &mut [u8], at: usize, count: usize, f: Five) -> usize
             e: 0,
         },
     )
+}
+
+// So many of the numbers, up to five, with a comma between two.
+pub fn put_numbers(buf: &mut [u8], at: usize, count: usize, f: Five) -> usize
+    ensures { λ r. ⌜ Put (now (buf .entry)) at (showNumbers count f) r (now (buf .exit)) ⌝ }
+{
+    if 5 < count {
+        return put_shown(buf, at, 5, f);
+    }
+    put_shown(buf, at, count, f)
 }
 
 // A line with a list of numbers.
