@@ -5,31 +5,50 @@ use mathlib.Core.Bool.{Bool, _&&_}
 use lib.IntN.{ℤ, pos}
 use lib.Signed.{leZ}
 use Rattle.layer.specs.declared.Op.{Op}
+use Rattle.layer.specs.declared.AutoPad.{AutoPad}
 use Rattle.layer.specs.declared.AutoPad.the-variants.{Explicit}
+use Rattle.layer.specs.declared.Rounding.{Rounding}
 use Rattle.layer.specs.declared.Rounding.the-variants.{Floor}
 use Rattle.layer.specs.declared.Axis.{Axis}
 use Rattle.layer.specs.declared.Layer.{Layer}
+use Rattle.layer.specs.Kinds.{sameRounding}
 
 abbrev pub defaultAxis : Axis
 defaultAxis = record { input = 1; kernel = 1; stride = 1; dilation = 1; «pad_begin» = 0; «pad_end» = 0; «output_padding» = 0 }
+
+-- the constants of the layer record: "1 for any size that is not used", "auto_pad explicit, rounding floor, axis 0"
+abbrev pub sizeDefault : ℕ
+sizeDefault = 1
+
+abbrev pub autoPadDefault : AutoPad
+autoPadDefault = Explicit
+
+abbrev pub roundingDefault : Rounding
+roundingDefault = Floor
+
+abbrev pub axisDefault : ℤ
+axisDefault = pos 0
 
 abbrev pub defaultLayer : Op → ℕ → Layer
 defaultLayer op axes =
     record {
       op = op;
       axes = axes;
-      n = 1;
-      c = 1;
-      g = 1;
-      o = 1;
-      i = 1;
+      n = sizeDefault;
+      c = sizeDefault;
+      g = sizeDefault;
+      o = sizeDefault;
+      i = sizeDefault;
       y = defaultAxis;
       x = defaultAxis;
-      «auto_pad» = Explicit;
-      rounding = Floor;
-      axis = pos 0;
+      «auto_pad» = autoPadDefault;
+      rounding = roundingDefault;
+      axis = axisDefault;
     }
 
--- "axis 0"
+-- whether pooling's rounding and axis are at their defaults, as they are where no pooling uses them
+abbrev pub isDefaultRounding : Rounding → Bool
+isDefaultRounding r = sameRounding r roundingDefault
+
 abbrev pub isDefaultAxis : ℤ → Bool
-isDefaultAxis z = leZ (pos 0) z && leZ z (pos 0)
+isDefaultAxis z = leZ axisDefault z && leZ z axisDefault

@@ -44,3 +44,12 @@ isSame Valid = false
 abbrev pub isFloor : Rounding → Bool
 isFloor Floor = true
 isFloor Ceil = false
+
+abbrev pub isCeil : Rounding → Bool
+isCeil Floor = false
+isCeil Ceil = true
+
+-- whether two roundings are one
+abbrev pub sameRounding : Rounding → Rounding → Bool
+sameRounding Floor b = isFloor b
+sameRounding Ceil b = isCeil b

@@ -1,8 +1,8 @@
 // The layer record: what a layer sheet says of one layer, with its limits and defaults, and the answer record of a call.
 ghost use mathlib.Core.Path.{_≡_};
-ghost use Rattle.layer.specs.Kinds.{isPool, isTransposed, isConvolution, sameOp, isExplicit, isSame, isFloor};
+ghost use Rattle.layer.specs.Kinds.{isPool, isTransposed, isConvolution, sameOp, isExplicit, isSame, isFloor, isCeil, sameRounding};
 ghost use Rattle.layer.specs.Limits.{within, imagesOk, channelsOk, sizeOk, kernelOk, stepOk, padOk, outputPaddingOk, tapsOk, elementsOk, axisOk};
-ghost use Rattle.layer.specs.Defaults.{defaultAxis, defaultLayer, isDefaultAxis};
+ghost use Rattle.layer.specs.Defaults.{defaultAxis, defaultLayer, isDefaultRounding, isDefaultAxis};
 ghost use Rattle.layer.specs.Answers.{numbered, badElement};
 
 pub enum Op {
@@ -204,12 +204,31 @@ pub fn is_same(m: AutoPad) -> bool
     }
 }
 
-pub fn is_floor(r: Rounding) -> bool
+fn is_floor(r: Rounding) -> bool
     ensures { λ b. ⌜ b ≡ isFloor r ⌝ }
 {
     match r {
         Rounding::Floor => true,
         Rounding::Ceil => false,
+    }
+}
+
+fn is_ceil(r: Rounding) -> bool
+    ensures { λ b. ⌜ b ≡ isCeil r ⌝ }
+{
+    match r {
+        Rounding::Floor => false,
+        Rounding::Ceil => true,
+    }
+}
+
+// Whether two roundings are one.
+fn same_rounding(a: Rounding, b: Rounding) -> bool
+    ensures { λ r. ⌜ r ≡ sameRounding a b ⌝ }
+{
+    match a {
+        Rounding::Floor => is_floor(b),
+        Rounding::Ceil => is_ceil(b),
     }
 }
 
@@ -287,7 +306,14 @@ pub fn axis_ok(axes: u32, axis: i32) -> bool
     }
 }
 
-// Whether pooling's axis is at its default, as it is where no pooling uses it.
+// ---- defaults: pooling's rounding and axis are at theirs where no pooling uses them
+
+pub fn is_default_rounding(rounding: Rounding) -> bool
+    ensures { λ r. ⌜ r ≡ isDefaultRounding rounding ⌝ }
+{
+    same_rounding(rounding, Layer::ROUNDING)
+}
+
 pub fn is_default_axis(axis: i32) -> bool
     ensures { λ r. ⌜ r ≡ isDefaultAxis axis ⌝ }
 {

@@ -9,8 +9,8 @@ use layer::channels_ok;
 use layer::elements_ok;
 use layer::images_ok;
 use layer::is_default_axis;
+use layer::is_default_rounding;
 use layer::is_explicit;
-use layer::is_floor;
 use layer::is_pool;
 use layer::same_op;
 use layer::taps_ok;
@@ -111,7 +111,7 @@ fn pooling_ok(axes: u32, axis: i32, g: u32, o: u32, i: u32) -> bool
 fn not_pooling_ok(rounding: Rounding, axis: i32) -> bool
     ensures { λ r. ⌜ r ≡ notPoolingOk rounding axis ⌝ }
 {
-    is_floor(rounding) & is_default_axis(axis)
+    is_default_rounding(rounding) & is_default_axis(axis)
 }
 
 fn unused_ok(op: Op, l: Layer) -> bool

@@ -17,13 +17,13 @@ use Rattle.text.specs.Lines.{Parsed, got, bad, keyLine, showLine}
 use Rattle.text.specs.Inverse.{Inverse}
 use Rattle.text.specs.declared.Five.{Five}
 use Rattle.text.proofs.LineLaws.{line-value, line-written-read, line-read-written}
-use Rattle.layer.specs.Kinds.{isPool, isTransposed, isFloor}
+use Rattle.layer.specs.Kinds.{isPool, isTransposed}
 use Rattle.layer.specs.declared.Op.{Op}
 use Rattle.layer.specs.declared.AutoPad.{AutoPad}
 use Rattle.layer.specs.declared.Rounding.{Rounding}
 use Rattle.layer.specs.declared.Axis.{Axis}
 use Rattle.layer.specs.declared.Layer.{Layer}
-use Rattle.layer.specs.Defaults.{isDefaultAxis}
+use Rattle.layer.specs.Defaults.{isDefaultRounding, isDefaultAxis}
 use Rattle.sheet.specs.Values.{opWords, autoPadWords, roundingWords, axesNumber, axisNumber, showAxis}
 use Rattle.sheet.specs.Layers.{inputCount, kernelCount, lastOf, yAxis, sizedLayer, paddedLayer, pairList}
 use Rattle.sheet.specs.Reader.{opLine, axesLine, listLine, autoPadLine, anyRounding, anyAxis, unlessUsed, noPadding, paddingLine, roundingLine, axisLine, after, ended, readPads, readSheet}
@@ -97,7 +97,7 @@ module _ (l : Layer) (p : Passed l) (f : LayerFits l) where
       (λ q. no-padding (l .axes) (l .y .«output_padding») (l .x .«output_padding») (unless (isTransposed (l .op)) _ (p .used-padding) q)))
       _ (Sheet l) λ at₁₀ h₁₀ b₁₀.
       there (text "rounding=") (lookup roundingWords) 22 rounding-inverse 11 (l .rounding) tt _ s at₁₀ h₁₀ b₁₀ _
-      (used-or-default (isPool (l .op)) isFloor _ _ (unless (isPool (l .op)) (isFloor (l .rounding)) (p .used-rounding))) _ (Sheet l) λ at₁₁ h₁₁ b₁₁.
+      (used-or-default (isPool (l .op)) isDefaultRounding _ _ (unless (isPool (l .op)) (isDefaultRounding (l .rounding)) (p .used-rounding))) _ (Sheet l) λ at₁₁ h₁₁ b₁₁.
       there (text "axis=") axisNumber 21 axis-inverse 12 (l .axis) (p .axis) [] s at₁₁
       (h₁₁ ∙ sym (append-nil (showLine (text "axis=") (showAxis (l .axis))))) b₁₁ _
       (used-or-default (isPool (l .op)) isDefaultAxis _ _ (unless (isPool (l .op)) (isDefaultAxis (l .axis)) (p .used-axis))) _ (Sheet l) λ at₁₂ h₁₂ b₁₂.
@@ -299,7 +299,7 @@ module _ (s : List ℕ) (l : Layer) (r : Lines s l) where
       (pair-text (r .axes) o (λ (a : Axis). a .«output_padding») (r .padding) _ _ (λ e. refl))
       (unless-says (isTransposed (r .op)) noPadding _ (r .padding) (r .at₁₀) (r .line₁₀) .0)
       (back (text "rounding=") (lookup roundingWords) 22 rounding-inverse s (r .at₁₀) (r .rounding) (r .at₁₁) _ _ refl
-      (unless-says (isPool (r .op)) isFloor _ (r .rounding) (r .at₁₁) (r .line₁₁) .0)
+      (unless-says (isPool (r .op)) isDefaultRounding _ (r .rounding) (r .at₁₁) (r .line₁₁) .0)
       (back-end (text "axis=") axisNumber 21 axis-inverse s (r .at₁₁) (r .axis) (r .at₁₂)
       (unless-says (isPool (r .op)) isDefaultAxis _ (r .axis) (r .at₁₂) (r .line₁₂) .0) (r .all))))))
 
@@ -339,7 +339,7 @@ module _ (s : List ℕ) (l : Layer) (r : Lines s l) where
         used-padding =
             padding-said (isTransposed (r .op)) (r .axes) (r .padding) (λ (a : Axis). a .«output_padding») _ _ (λ e. rw e) refl
             (unless-says (isTransposed (r .op)) noPadding _ (r .padding) (r .at₁₀) (r .line₁₀) .1);
-        used-rounding = unless-says (isPool (r .op)) isFloor _ (r .rounding) (r .at₁₁) (r .line₁₁) .1;
+        used-rounding = unless-says (isPool (r .op)) isDefaultRounding _ (r .rounding) (r .at₁₁) (r .line₁₁) .1;
         axis = axis-said (a .0) (r .axis) (a .1);
         used-axis = unless-says (isPool (r .op)) isDefaultAxis _ (r .axis) (r .at₁₂) (r .line₁₂) .1;
       }

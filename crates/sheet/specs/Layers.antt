@@ -4,7 +4,7 @@ use mathlib.Core.Bool.{cond}
 use lib.Dec.{eqb}
 use lib.IntN.{ℤ}
 use Rattle.text.specs.declared.Five.{Five}
-use Rattle.layer.specs.Defaults.{defaultAxis, defaultLayer}
+use Rattle.layer.specs.Defaults.{defaultAxis, defaultLayer, sizeDefault}
 use Rattle.layer.specs.declared.Op.{Op}
 use Rattle.layer.specs.declared.Op.the-variants.{Convolution, Transposed, MaxPool}
 use Rattle.layer.specs.declared.AutoPad.{AutoPad}
@@ -29,7 +29,7 @@ kernelCount MaxPool axes = axes
 abbrev pub kernelOf : Op → Five → Kernel
 kernelOf Convolution f = record { g = f .a; o = f .b; i = f .c; first = f .d; second = f .e }
 kernelOf Transposed f = record { g = f .a; o = f .c; i = f .b; first = f .d; second = f .e }
-kernelOf MaxPool f = record { g = 1; o = 1; i = 1; first = f .a; second = f .b }
+kernelOf MaxPool f = record { g = sizeDefault; o = sizeDefault; i = sizeDefault; first = f .a; second = f .b }
 
 -- X's number of the two that a list has for Y and X; with one axis the first
 abbrev pub lastOf : ℕ → ℕ → ℕ → ℕ

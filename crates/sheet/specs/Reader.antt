@@ -10,8 +10,8 @@ use Rattle.text.specs.Lists.{numbers}
 use Rattle.text.specs.Words.{lookup}
 use Rattle.text.specs.Lines.{Parsed, got, bad, keyLine}
 use Rattle.text.specs.declared.Five.{Five}
-use Rattle.layer.specs.Kinds.{isPool, isTransposed, isFloor}
-use Rattle.layer.specs.Defaults.{defaultAxis, isDefaultAxis}
+use Rattle.layer.specs.Kinds.{isPool, isTransposed}
+use Rattle.layer.specs.Defaults.{defaultAxis, isDefaultRounding, isDefaultAxis}
 use Rattle.layer.specs.declared.Op.{Op}
 use Rattle.layer.specs.declared.AutoPad.{AutoPad}
 use Rattle.layer.specs.declared.Rounding.{Rounding}
@@ -66,7 +66,7 @@ unfoldable pub paddingLine : Op → ℕ → List ℕ → ℕ → Parsed Five
 paddingLine op axes s at = unlessUsed (isTransposed op) noPadding (listLine (text "output_padding=") axes s at)
 
 unfoldable pub roundingLine : Op → List ℕ → ℕ → Parsed Rounding
-roundingLine op s at = unlessUsed (isPool op) isFloor (anyRounding s at)
+roundingLine op s at = unlessUsed (isPool op) isDefaultRounding (anyRounding s at)
 
 unfoldable pub axisLine : Op → List ℕ → ℕ → Parsed ℤ
 axisLine op s at = unlessUsed (isPool op) isDefaultAxis (anyAxis s at)

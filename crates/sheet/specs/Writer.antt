@@ -10,8 +10,8 @@ use Rattle.text.specs.Texts.{text}
 use Rattle.text.specs.Numbers.{decimal}
 use Rattle.text.specs.Lists.{showNumbers}
 use Rattle.text.specs.Lines.{showLine}
-use Rattle.layer.specs.Kinds.{isPool, isTransposed, isFloor}
-use Rattle.layer.specs.Defaults.{defaultAxis, isDefaultAxis}
+use Rattle.layer.specs.Kinds.{isPool, isTransposed}
+use Rattle.layer.specs.Defaults.{defaultAxis, sizeDefault, isDefaultRounding, isDefaultAxis}
 use Rattle.layer.specs.declared.Op.{Op}
 use Rattle.layer.specs.declared.Rounding.{Rounding}
 use Rattle.layer.specs.declared.Layer.{Layer}
@@ -58,19 +58,19 @@ badAxes axes = not (eqb axes 1) && not (eqb axes 2)
 abbrev pub badAxis : ℤ → Bool
 badAxis z = not (leZ (negsuc 8) z && leZ z (pos 9))
 
--- "23 also for a field the lines can't show that isn't at its default": Y's fields with one axis, and G, O, I of maxpool, whose default is 1
+-- "23 also for a field the lines can't show that isn't at its default": Y's fields with one axis, and G, O, I of maxpool
 abbrev pub hides : ℕ → ℕ → ℕ → Bool
 hides axes y default = eqb axes 1 && not (eqb y default)
 
 abbrev pub hidesSizes : Op → ℕ → ℕ → ℕ → Bool
-hidesSizes op g o i = isPool op && not (eqb g 1 && eqb o 1 && eqb i 1)
+hidesSizes op g o i = isPool op && not (eqb g sizeDefault && eqb o sizeDefault && eqb i sizeDefault)
 
 -- a line that the operator does not use, not at its default
 abbrev pub unusedPadding : Op → ℕ → ℕ → Bool
 unusedPadding op y x = not (isTransposed op) && not (eqb y (defaultAxis .«output_padding») && eqb x (defaultAxis .«output_padding»))
 
 abbrev pub unusedRounding : Op → Rounding → Bool
-unusedRounding op r = not (isPool op) && not (isFloor r)
+unusedRounding op r = not (isPool op) && not (isDefaultRounding r)
 
 abbrev pub unusedAxis : Op → ℤ → Bool
 unusedAxis op z = not (isPool op) && not (isDefaultAxis z)

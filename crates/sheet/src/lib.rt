@@ -5,7 +5,7 @@ use layer::Layer;
 use layer::Op;
 use layer::Rounding;
 use layer::is_default_axis;
-use layer::is_floor;
+use layer::is_default_rounding;
 use layer::is_pool;
 use layer::is_transposed;
 use text::Five;
@@ -349,7 +349,7 @@ fn rounding_line(s: &[u8], at: usize, op: Op) -> RoundingLine
     let RoundingLine::RoundingAt(v, _) = r else {
         return r;
     };
-    if is_floor(v) {
+    if is_default_rounding(v) {
         return r;
     }
     RoundingLine::BadRounding(23)
@@ -820,7 +820,7 @@ fn unused_padding(op: Op, y: u32, x: u32) -> bool
 fn unused_rounding(op: Op, rounding: Rounding) -> bool
     ensures { λ r. ⌜ r ≡ unusedRounding op rounding ⌝ }
 {
-    !is_pool(op) & !is_floor(rounding)
+    !is_pool(op) & !is_default_rounding(rounding)
 }
 
 fn unused_axis(op: Op, axis: i32) -> bool

@@ -21,13 +21,13 @@ returns-3 : tie.Need-returns-3
 unfolding roundingLine
 returns-3 c =
     let a = c .before .before .before .before .before in
-    unless-default _ _ _ _ (sym (a .before .is-pool .ensures) ∙ a .if1 .left) (told roundingParsed (a .before .before .any-rounding .ensures) (c .before .before .before .r .given .1)) (sym (c .before .is-floor .ensures) ∙ c .if2 .taken)
+    unless-default _ _ _ _ (sym (a .before .is-pool .ensures) ∙ a .if1 .left) (told roundingParsed (a .before .before .any-rounding .ensures) (c .before .before .before .r .given .1)) (sym (c .before .is-default-rounding .ensures) ∙ c .if2 .taken)
 
 returns-4 : tie.Need-returns-4
 unfolding roundingLine
 returns-4 c =
     let a = c .before .before .before .before .before in
-    unless-other _ _ _ _ (sym (a .before .is-pool .ensures) ∙ a .if1 .left) (told roundingParsed (a .before .before .any-rounding .ensures) (c .before .before .before .r .given .1)) (sym (c .before .is-floor .ensures) ∙ c .if2 .left)
+    unless-other _ _ _ _ (sym (a .before .is-pool .ensures) ∙ a .if1 .left) (told roundingParsed (a .before .before .any-rounding .ensures) (c .before .before .before .r .given .1)) (sym (c .before .is-default-rounding .ensures) ∙ c .if2 .left)
 
 pub rounding-line-spec : {M : Type 1} → statement M
 rounding-line-spec =
