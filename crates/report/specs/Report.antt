@@ -2,6 +2,7 @@
 -- `output=1,2,2,2` (two lines, for the sheet above); else `answer=` with the number, and for 20 to 23 a second line `line=`."
 use Prim.Native.Nat.{ℕ, _+_}
 use mathlib.Core.List.{List, _++_}
+use lib.ListN.{take}
 use Rattle.text.specs.Texts.{text}
 use Rattle.text.specs.Numbers.{decimal}
 use Rattle.text.specs.Lists.{showNumbers}
@@ -33,6 +34,6 @@ unfoldable pub readReport : Read → List ℕ
 readReport (Sheet l) = sizesReport (l .axes) (outputOf l)
 readReport (Refused number line) = answerLine number ++ lineLine line
 
--- the report of a sheet's bytes
+-- "judges the first 512 bytes of standard input as a sheet"
 abbrev pub reportOf : List ℕ → List ℕ
-reportOf s = readReport (readSheet s)
+reportOf input = readReport (readSheet (take 512 input))

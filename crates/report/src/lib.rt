@@ -1,4 +1,5 @@
 // What a sheet comes to: the sizes of its layer's output, or the number that refuses it, as values and as the text that the program prints.
+// That text is at most 80 bytes long: two keys and line ends, and at most five numbers of at most ten digits.
 use layer::Layer;
 use layer::Op;
 use shape::Judged;
@@ -7,6 +8,7 @@ use sheet::Read;
 use sheet::input_list;
 use sheet::read_sheet;
 use text::Five;
+use text::part_of;
 use text::put_list_line;
 ghost use mathlib.Core.Path.{_≡_};
 ghost use mathlib.Core.List.{_++_};
@@ -81,7 +83,9 @@ fn put_number_line(buf: &mut [u8], at: usize, key: &[u8], n: u32) -> usize
 
 // The lines of an accepted layer.
 fn put_output(buf: &mut [u8], axes: u32, o: Output) -> usize
+    requires { ⌜ axes ≤ 2 ⌝ }
     ensures { λ r. ⌜ Put (now (buf .entry)) 0 (answerLine 0 ++ outputLine axes o) r (now (buf .exit)) ⌝ }
+    ensures { λ r. ⌜ r ≤ 80 ⌝ }
 {
     let sizes = input_list(axes, o.n, o.c, o.y, o.x);
     let next = put_number_line(buf, 0, b"answer=", 0);
@@ -91,6 +95,7 @@ fn put_output(buf: &mut [u8], axes: u32, o: Output) -> usize
 // The lines of a layer that is read.
 fn put_layer(buf: &mut [u8], layer: Layer) -> usize
     ensures { λ r. ⌜ Put (now (buf .entry)) 0 (sizesReport (layer .axes) (outputOf layer)) r (now (buf .exit)) ⌝ }
+    ensures { λ r. ⌜ r ≤ 80 ⌝ }
 {
     let sizes = output_sizes(layer);
     match sizes {
@@ -102,16 +107,18 @@ fn put_layer(buf: &mut [u8], layer: Layer) -> usize
 // The lines of a sheet that is not read.
 fn put_refusal(buf: &mut [u8], number: u32, line: u32) -> usize
     ensures { λ r. ⌜ Put (now (buf .entry)) 0 (answerLine number ++ lineLine line) r (now (buf .exit)) ⌝ }
+    ensures { λ r. ⌜ r ≤ 80 ⌝ }
 {
     let next = put_number_line(buf, 0, b"answer=", number);
     put_number_line(buf, next, b"line=", line)
 }
 
-// The report of a sheet, from the start of the buffer, as far as it goes; the place after it.
-pub fn report(sheet: &[u8], buf: &mut [u8]) -> usize
-    ensures { λ r. ⌜ Put (now (buf .entry)) 0 (reportOf (now (sheet .entry))) r (now (buf .exit)) ⌝ }
+// The report of the first 512 bytes as a sheet, from the start of the buffer, as far as it goes; the place after it.
+pub fn report(input: &[u8], buf: &mut [u8]) -> usize
+    ensures text { λ r. ⌜ Put (now (buf .entry)) 0 (reportOf (now (input .entry))) r (now (buf .exit)) ⌝ }
+    ensures bound { λ r. ⌜ r ≤ 80 ⌝ }
 {
-    let read = read_sheet(sheet);
+    let read = read_sheet(part_of(input, 0, 512));
     match read {
         Read::Refused(number, line) => put_refusal(buf, number, line),
         Read::Sheet(layer) => put_layer(buf, layer),

@@ -6,7 +6,7 @@ use mathlib.Core.Bool.{Bool, true, false, cond, not, _&&_}
 use native.Mathlib.Omega.{arith}
 use lib.Dec.{eqb}
 use borrow.Author.Tests.{eq-eqb, ne-eqb, eqb-true}
-use Rattle.text.specs.Lists.{showNumbers, numbers}
+use Rattle.text.specs.Lists.{shown, showNumbers, numbers}
 use Rattle.text.specs.Inverse.{Inverse}
 use Rattle.text.specs.declared.Five.{Five}
 use Rattle.layer.specs.Defaults.{defaultAxis}
@@ -16,7 +16,7 @@ use Rattle.layer.specs.declared.Axis.{Axis}
 use Rattle.layer.specs.declared.Layer.{Layer}
 use Rattle.sheet.specs.Layers.{inputCount, kernelCount, kernelOf, lastOf, yAxis, sizedLayer, paddedLayer, pairList, inputList, kernelList}
 use Rattle.sheet.specs.Writer.{badAxes, hides, hidesSizes}
-use Rattle.sheet.specs.Fits.{U32}
+use Rattle.sheet.proofs.Fits.{U32}
 use Rattle.sheet.proofs.WriterLaws.{Passed}
 use Rattle.sheet.proofs.ValueLaws.{OneTwo, ListOk, list-inverse}
 
@@ -170,13 +170,13 @@ layer-back l p =
 module _ (axes : ℕ) (o : OneTwo axes) where
   pub pair-text : (φ : Axis → ℕ) (f : Five) (unused used : Axis) → (axes ≡ 2 → φ used ≡ f .a)
       → showNumbers axes (pairList axes (φ (yAxis axes unused used)) (lastOf axes (f .a) (f .b))) ≡ showNumbers axes f
-  unfolding OneTwo showNumbers
+  unfolding OneTwo shown showNumbers
   pair-text φ f unused used h = ⊎-elim (λ (e : axes ≡ 1). rw e) (λ (e : axes ≡ 2). rw (e, h e)) o
 
   pub input-text : (φ : Axis → ℕ) (f : Five) (unused used : Axis) → (axes ≡ 2 → φ used ≡ f .c)
       → showNumbers (inputCount axes) (inputList axes (f .a) (f .b) (φ (yAxis axes unused used)) (lastOf axes (f .c) (f .d)))
       ≡ showNumbers (inputCount axes) f
-  unfolding OneTwo showNumbers
+  unfolding OneTwo shown showNumbers
   input-text φ f unused used h = ⊎-elim (λ (e : axes ≡ 1). rw e) (λ (e : axes ≡ 2). rw (e, h e)) o
 
   pub kernel-text : (op : Op) (φ : Axis → ℕ) (f : Five) (unused used : Axis) → (axes ≡ 2 → φ used ≡ kernelOf op f .first)
@@ -184,7 +184,7 @@ module _ (axes : ℕ) (o : OneTwo axes) where
       (kernelList op axes (kernelOf op f .g) (kernelOf op f .o) (kernelOf op f .i) (φ (yAxis axes unused used))
       (lastOf axes (kernelOf op f .first) (kernelOf op f .second)))
       ≡ showNumbers (kernelCount op axes) f
-  unfolding OneTwo showNumbers
+  unfolding OneTwo shown showNumbers
   kernel-text Convolution φ f unused used h = ⊎-elim (λ (e : axes ≡ 1). rw e) (λ (e : axes ≡ 2). rw (e, h e)) o
   kernel-text Transposed φ f unused used h = ⊎-elim (λ (e : axes ≡ 1). rw e) (λ (e : axes ≡ 2). rw (e, h e)) o
   kernel-text MaxPool φ f unused used h = pair-text φ f unused used h

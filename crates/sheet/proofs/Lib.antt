@@ -1,3 +1,4 @@
+pub mod Fits
 pub mod ReaderLaws
 pub mod WriterLaws
 pub mod ValueLaws

@@ -28,11 +28,12 @@ use Rattle.sheet.specs.Values.{opWords, autoPadWords, roundingWords, axe
 use Rattle.sheet.specs.Layers.{inputCount, kernelCount, lastOf, yAxis, sizedLayer, paddedLayer, pairList}
 use Rattle.sheet.specs.Reader.{opLine, axesLine, listLine, autoPadLine, anyRounding, anyAxis, unlessUsed, noPadding, paddingLine, roundingLine, axisLine, after, ended, readPads, readSheet}
 use Rattle.sheet.specs.Writer.{showPads, showSheet, faults, first, faultOf, written, notWritten, answer, writeSheet, leave, bufferAfter}
-use Rattle.sheet.specs.Fits.{LayerFits}
 use Rattle.sheet.specs.declared.Fault.{Fault}
 use Rattle.sheet.specs.declared.Fault.the-variants.{Fine, At}
 use Rattle.sheet.specs.declared.Read.{Read}
 use Rattle.sheet.specs.declared.Read.the-variants.{Sheet, Refused}
+use Rattle.sheet.specs.declared.Written.{Written}
+use Rattle.sheet.proofs.Fits.{LayerFits}
 use Rattle.sheet.proofs.ReaderLaws.{ended-yes}
 use Rattle.sheet.proofs.WriterLaws.{Passed, passed, passed-fine}
 use Rattle.sheet.proofs.ValueLaws.{OneTwo, op-inverse, auto-pad-inverse, rounding-inverse, axes-inverse, axis-inverse, axes-said, axis-said}
@@ -395,11 +396,24 @@ taken l buffer e = go (faultOf l) refl (fault-numbered l) e
         record { fine = q; long = rw (q, t); left = rw (q, t) }
 
 -- Reading what was written: where a write answers 0, the bytes that it tells of are read as the layer that was written.
-pub read-written : (l : Layer) → LayerFits l → (buffer : List ℕ) → writeSheet l (length buffer) .number ≡ 0
+read-written : (l : Layer) → LayerFits l → (buffer : List ℕ) → writeSheet l (length buffer) .number ≡ 0
     → readSheet (take (writeSheet l (length buffer) .length) (bufferAfter l buffer)) ≡ Sheet l
 read-written l f buffer e =
     let t = taken l buffer e in
     rw (t .long, t .left, take-append-seam (showSheet l) (drop (length (showSheet l)) buffer)) (sheet-there l (passed l (t .fine)) f)
+
+-- the same of the answer and the buffer of a call
+pub way-back : (l : Layer) → LayerFits l → (before left : List ℕ) (w : Written) → w ≡ writeSheet l (length before) → left ≡ bufferAfter l before
+    → w .number ≡ 0 → readSheet (take (w .length) left) ≡ Sheet l
+way-back l f before left w a b e = rw (a, b) (read-written l f before (sym (ap (λ (v : Written). v .number) a) ∙ e))
+
+-- A layer that was read from s, where a write of it answers 0: the bytes that it tells of are s.
+pub rewritten : (s : List ℕ) (l : Layer) → readSheet s ≡ Sheet l → (buffer : List ℕ) → writeSheet l (length buffer) .number ≡ 0
+    → (writeSheet l (length buffer) .length ≡ length s) × (take (writeSheet l (length buffer) .length) (bufferAfter l buffer) ≡ s)
+rewritten s l e buffer z =
+    let t = taken l buffer z in
+    let b = sheet-back s l (lines s l e) in
+    (t .long ∙ ap length b, rw (t .long, t .left, b, take-append-seam s (drop (length s) buffer)))
 
 -- Writing what was read: a layer that was read from s is written, into any buffer with room, as s.
 pub written-read : (s : List ℕ) (l : Layer) → readSheet s ≡ Sheet l → (buffer : List ℕ) → length s ≤ length buffer

@@ -2,4 +2,3 @@ pub mod Values
 pub mod Layers
 pub mod Reader
 pub mod Writer
-pub mod Fits

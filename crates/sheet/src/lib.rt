@@ -21,7 +21,7 @@ use text::read_number;
 use text::read_numbers;
 ghost use mathlib.Core.Path.{_≡_};
 ghost use mathlib.Core.Bool.{false};
-ghost use lib.ListN.{length};
+ghost use lib.ListN.{length, take};
 ghost use Rattle.text.specs.Texts.{text};
 ghost use Rattle.text.specs.Numbers.{decimal};
 ghost use Rattle.text.specs.Lists.{numbers};
@@ -929,10 +929,11 @@ fn write_fine(l: Layer, buf: &mut [u8]) -> Written
     }
 }
 
-// The sheet from the buffer's start, or a refusal with the buffer as it was.
+// The sheet from the buffer's start, which is read as the layer again, or a refusal with the buffer as it was.
 pub fn write_sheet(layer: Layer, buf: &mut [u8]) -> Written
     ensures answer { λ r. ⌜ r ≡ writeSheet layer (length (now (buf .entry))) ⌝ }
     ensures contents { λ r. ⌜ now (buf .exit) ≡ bufferAfter layer (now (buf .entry)) ⌝ }
+    ensures back { λ r. ⌜ (r .number ≡ 0 → readSheet (take (r .length) (now (buf .exit))) ≡ Read.Sheet layer) ⌝ }
 {
     match fault_of(layer) {
         Fault::At(number, line) => not_written(number, line),

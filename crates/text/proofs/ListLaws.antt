@@ -1,5 +1,5 @@
 -- Laws of lists of numbers: the steps of the code, and the two inverse laws.
-use Prim.Native.Nat.{ℕ, zero, suc, _+_, _-_, _≤_, _<_, min}
+use Prim.Native.Nat.{ℕ, zero, suc, _+_, _-_, _*_, _≤_, _<_, min}
 use mathlib.Core.Path.{_≡_, refl, sym, ap, _∙_}
 use mathlib.Core.List.{List, _∷_, _++_}
 use mathlib.Core.Bool.{Bool, true, false, cond}
@@ -16,7 +16,7 @@ use Rattle.text.specs.Inverse.{Inverse}
 use Rattle.text.specs.Lists.{oneItem, moreItem, laterItems, lastNumber, oneMore, spelled, numbers, shown, showNumbers}
 use Rattle.text.specs.declared.Five.{Five}
 use Rattle.text.proofs.TextLaws.{tail-part, absent-append, place-first, place-split}
-use Rattle.text.proofs.NumberLaws.{number-decimal, decimal-number, decimal-absent}
+use Rattle.text.proofs.NumberLaws.{number-decimal, decimal-number, decimal-absent, decimal-10}
 
 -- ---- the steps of spelled_numbers
 pub numbers-0 : (t : List ℕ) (n : ℕ) → n ≡ 0 → spelled n t ≡ none
@@ -177,3 +177,16 @@ numbers-inverse k h =
       shown-read = λ t f e. rw least (numbers-back k t f h (rw five at e) .0);
       one-line = λ f ok. rw least (numbers-absent k f);
     }
+
+-- ---- how long a list is: ten digits and a comma for each number
+shown-length : (k : ℕ) (f : Five) → InRange f → length (shown k f) ≤ 11 * k
+unfolding shown
+shown-length zero f r = omega arith
+shown-length (suc zero) f r = omega (arith, decimal-10 (f .a) (r .a))
+shown-length (suc (suc k)) f r =
+    rw (length-append (decimal (f .a)) (44 ∷ shown (suc k) (laterItems f)))
+    (omega (arith, decimal-10 (f .a) (r .a), shown-length (suc k) (laterItems f) (later-range f r)))
+
+pub numbers-length : (k : ℕ) (f : Five) → InRange f → length (showNumbers k f) ≤ 11 * k
+unfolding showNumbers
+numbers-length k f r = omega (arith, shown-length (min k 5) f r)

@@ -1,12 +1,11 @@
 -- `put_axes` meets its contract: a list of one number.
 use borrow.Author.Needs.{needs}
-use Rattle.text.specs.Lists.{showNumbers}
+use Rattle.text.proofs.PutLaws.{show-1}
 use Rattle.sheet.proofs.put_axes.Statement.{statement}
 use Rattle.sheet.proofs.put_axes.Tie as tie
 
 returns : tie.Need-returns
-unfolding showNumbers
-returns c = c .before .before .put-list-line .ensures
+returns c = rw (show-1 _) at (c .before .before .put-list-line .ensures)
 
 pub put-axes-spec : {M : Type 1} → statement M
 put-axes-spec =

@@ -4,7 +4,7 @@ use Rattle.sheet.proofs.unused_rounding.Statement.{statement}
 use Rattle.sheet.proofs.unused_rounding.Tie as tie
 
 returns : tie.Need-returns
-returns c = rw (c .before .is-pool .ensures, c .is-floor .ensures)
+returns c = rw (c .before .is-pool .ensures, c .is-default-rounding .ensures)
 
 pub unused-rounding-spec : {M : Type 1} → statement M
 unused-rounding-spec =
