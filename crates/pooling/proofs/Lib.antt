@@ -3,4 +3,3 @@ pub mod Modulus
 pub mod Bounds
 pub mod Accepted
 pub mod Largest
-pub mod Bench

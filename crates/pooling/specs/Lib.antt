@@ -4,3 +4,4 @@ pub mod Index
 pub mod Call
 pub mod Outputs
 pub mod Steps
+pub mod Bench
