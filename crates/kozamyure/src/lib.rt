@@ -11,7 +11,7 @@ use sheet::write_sheet;
 use tensor::find_peak;
 use transposed::transposed;
 ghost use mathlib.Core.Path.{_≡_};
-ghost use lib.ListN.{length};
+ghost use lib.ListN.{length, take};
 ghost use Rattle.layer.specs.declared.Op.the-variants.{Convolution, Transposed};
 ghost use Rattle.tensor.specs.Peak.{peakOf};
 ghost use Rattle.convolution.specs.Convolution.{placeOf as convolutionPlaces};
@@ -191,10 +191,12 @@ pub extern "C" fn koza_peak(plane: &[f32], width: usize) -> PeakFound
     }
 }
 
+// Where the number is 0, the buffer begins with the sheet's own bytes.
 #[no_mangle]
 pub extern "C" fn koza_rewrite(sheet: &[u8], buffer: &mut [u8]) -> SheetWritten
     ensures answer { λ r. ⌜ r ≡ rewriteAnswer (readSheet (now (sheet .entry))) (length (now (buffer .entry))) ⌝ }
     ensures contents { λ _. ⌜ now (buffer .exit) ≡ rewriteBuffer (readSheet (now (sheet .entry))) (now (buffer .entry)) ⌝ }
+    ensures back { λ r. ⌜ (r .number ≡ 0 → (r .length ≡ length (now (sheet .entry))) × (take (r .length) (now (buffer .exit)) ≡ now (sheet .entry))) ⌝ }
 {
     let read = read_sheet(sheet);
     match read {

@@ -4,3 +4,4 @@ pub mod WriterLaws
 pub mod ValueLaws
 pub mod LayerLaws
 pub mod RoundTrip
+pub mod Refusals
