@@ -1,0 +1,447 @@
+// Runs what no layer sheet can say, and the plane picker. Cases are read from standard input; a line is printed for each.
+// A case of a record has 15 lines: its name, the 12 lines of a layer sheet, the field of the layer that is then changed, and how many bytes are lent to the
+// writer. All three operators are called with the layer, over an input (2), a kernel (3) and outputs of one element, and the layer is written as a sheet.
+// A case of a plane has five: its name, the tensor's sizes, its length, the image and the channel. The tensor's elements are their own places.
+// The outputs and the buffer hold marks before the calls: `kept` says that they still do.
+use convolution::convolution;
+use layer::Axis;
+use layer::Layer;
+use layer::Rounding;
+use libc::STDIN_FILENO;
+use libc::STDOUT_FILENO;
+use pooling::max_pool;
+use sheet::Read;
+use sheet::Written;
+use sheet::read_sheet;
+use sheet::write_sheet;
+use tensor::pick_plane;
+use text::Five;
+use text::Line;
+use text::Number;
+use text::Numbers;
+use text::is_text;
+use text::part_of;
+use text::read_line;
+use text::read_number;
+use text::read_numbers;
+use text::starts;
+use transposed::transposed;
+ghost use Prim.Native.Nat.{_≤_};
+
+// What stands in outputs and in the buffer before a call; no case expects one of them.
+const MARK: f32 = 7.0;
+
+const INDEX_MARK: i64 = -7;
+
+const BYTE_MARK: u8 = 35;
+
+// ---- printing
+
+fn print(text: &[u8]) {
+    io::write_all(STDOUT_FILENO, text);
+}
+
+fn print_number(n: u64) {
+    io::print_decimal(STDOUT_FILENO, n);
+}
+
+// The whole number below 1,000 that a value is, or 1,000.
+fn whole_of(value: f32) -> u16 {
+    let mut n: u16 = 0;
+    while n < 1000 {
+        if n as f32 == value {
+            return n;
+        }
+        n += 1;
+    }
+    n
+}
+
+fn print_magnitude(value: f32) {
+    let n = whole_of(value);
+    if n < 1000 {
+        print_number(n as u64);
+    } else {
+        print(b"?");
+    }
+}
+
+// A whole number from 0 on. No case expects another value; -0 is told apart from 0.
+fn print_value(value: f32) {
+    if 1.0 / value < 0.0 {
+        print(b"-");
+    }
+    print_magnitude(value);
+}
+
+// The only index that a tensor of one element has is 0.
+fn print_index(index: i64) {
+    if index == 0 {
+        print(b"0");
+    } else {
+        print(b"?");
+    }
+}
+
+fn print_kept(kept: bool) {
+    if kept {
+        print(b"kept");
+    } else {
+        print(b"changed");
+    }
+}
+
+// ---- the operators
+
+fn print_output(number: u32, output: f32) {
+    print_number(number as u64);
+    print(b" ");
+    if output == MARK {
+        print(b"kept");
+        return;
+    }
+    print_value(output);
+}
+
+fn run_convolution(layer: Layer) {
+    let input = [2.0f32];
+    let kernel = [3.0f32];
+    let mut output = [MARK];
+    let answer = convolution(layer, &input, &kernel, &mut output);
+    print(b" convolution=");
+    print_output(answer.number, output[0]);
+}
+
+fn run_transposed(layer: Layer) {
+    let input = [2.0f32];
+    let kernel = [3.0f32];
+    let mut output = [MARK];
+    let answer = transposed(layer, &input, &kernel, &mut output);
+    print(b" transposed=");
+    print_output(answer.number, output[0]);
+}
+
+// A value with its index.
+fn print_best(value: f32, index: i64) {
+    let kept = value == MARK;
+    if kept != (index == INDEX_MARK) {
+        print(b"mixed");
+        return;
+    }
+    if kept {
+        print(b"kept");
+        return;
+    }
+    print_value(value);
+    print(b"@");
+    print_index(index);
+}
+
+fn run_max_pool(layer: Layer) {
+    let input = [2.0f32];
+    let mut values = [MARK];
+    let mut indices = [INDEX_MARK];
+    let answer = max_pool(layer, &input, &mut values, &mut indices);
+    print(b" maxpool=");
+    print_number(answer.number as u64);
+    print(b" ");
+    print_best(values[0], indices[0]);
+}
+
+// ---- the writer
+
+// Whether every byte is still the mark.
+fn is_kept(bytes: &[u8]) -> bool {
+    let mut i = 0;
+    while i < bytes.len() {
+        if bytes[i] != BYTE_MARK {
+            return false;
+        }
+        i += 1;
+    }
+    true
+}
+
+// A sheet on one line: its line ends are printed as bars.
+fn print_sheet(sheet: &[u8]) {
+    let mut i = 0;
+    while i < sheet.len() {
+        if sheet[i] == 10 {
+            print(b"|");
+        } else {
+            print(part_of(sheet, i, i + 1));
+        }
+        i += 1;
+    }
+}
+
+fn print_written(written: Written, buffer: &[u8; 512]) {
+    print(b" write=");
+    print_number(written.number as u64);
+    print(b" line=");
+    print_number(written.line as u64);
+    print(b" length=");
+    print_number(written.length as u64);
+    print(b" ");
+    if written.number != 0 {
+        print_kept(is_kept(buffer));
+        return;
+    }
+    print_sheet(part_of(buffer, 0, written.length));
+    print(b" rest=");
+    print_kept(is_kept(part_of(buffer, written.length, buffer.len())));
+}
+
+// The buffer goes on behind the bytes that are lent.
+fn run_write(layer: Layer, room: usize)
+    requires { ⌜ room ≤ 400 ⌝ }
+{
+    let mut buffer = [BYTE_MARK; 512];
+    let written = write_sheet(layer, &mut buffer[..room]);
+    print_written(written, &buffer);
+}
+
+// ---- reading the cases
+
+// The value of the line at a place, after its key; empty where there is no such line.
+fn value_of<'a>(s: &'a [u8], at: usize, key: &[u8]) -> &'a [u8] {
+    let line = read_line(s, at, key);
+    match line {
+        Line::Value(start, end, _) => part_of(s, start, end),
+        Line::NoLine => part_of(s, 0, 0),
+    }
+}
+
+// Where the next line starts.
+fn after_line(s: &[u8], at: usize) -> usize {
+    let line = read_line(s, at, b"");
+    match line {
+        Line::Value(_, _, next) => next,
+        Line::NoLine => s.len(),
+    }
+}
+
+fn after_sheet(s: &[u8], at: usize) -> usize {
+    let mut next = at;
+    let mut lines = 0usize;
+    while lines < 12 {
+        next = after_line(s, next);
+        lines += 1;
+    }
+    next
+}
+
+// The number of the line at a place, where it has the key; else the other number.
+fn number_or(s: &[u8], at: usize, key: &[u8], other: u32) -> u32 {
+    let number = read_number(value_of(s, at, key));
+    match number {
+        Number::Value(n) => n,
+        Number::NoNumber => other,
+    }
+}
+
+// The length in the line at a place, up to so many.
+fn length_at(s: &[u8], at: usize, key: &[u8], most: usize) -> usize
+    ensures { λ r. ⌜ r ≤ most ⌝ }
+{
+    let length = number_or(s, at, key, 0) as usize;
+    if length <= most { length } else { most }
+}
+
+// ---- the changed field: each field is the line's value where the line has its key, and else as it was
+
+fn changed_y(y: Axis, s: &[u8], at: usize) -> Axis {
+    Axis {
+        input: number_or(s, at, b"y.input=", y.input),
+        kernel: number_or(s, at, b"y.kernel=", y.kernel),
+        stride: number_or(s, at, b"y.stride=", y.stride),
+        dilation: number_or(s, at, b"y.dilation=", y.dilation),
+        pad_begin: number_or(s, at, b"y.pad_begin=", y.pad_begin),
+        pad_end: number_or(s, at, b"y.pad_end=", y.pad_end),
+        output_padding: number_or(s, at, b"y.output_padding=", y.output_padding),
+    }
+}
+
+fn changed_x(x: Axis, s: &[u8], at: usize) -> Axis {
+    Axis {
+        input: x.input,
+        kernel: x.kernel,
+        stride: x.stride,
+        dilation: x.dilation,
+        pad_begin: x.pad_begin,
+        pad_end: x.pad_end,
+        output_padding: number_or(s, at, b"x.output_padding=", x.output_padding),
+    }
+}
+
+fn changed_rounding(rounding: Rounding, value: &[u8]) -> Rounding {
+    if is_text(value, b"ceil") {
+        return Rounding::Ceil;
+    }
+    if is_text(value, b"floor") {
+        return Rounding::Floor;
+    }
+    rounding
+}
+
+// A number up to 100.
+fn small(t: &[u8]) -> u8 {
+    let number = read_number(t);
+    match number {
+        Number::Value(n) => { if n < 100 { n as u8 } else { 100 } }
+        Number::NoNumber => 100,
+    }
+}
+
+fn changed_axis(axis: i32, value: &[u8]) -> i32 {
+    if value.len() == 0 {
+        return axis;
+    }
+    if starts(value, b"-") {
+        return -(small(part_of(value, 1, value.len())) as i32);
+    }
+    small(value) as i32
+}
+
+fn changed(l: Layer, s: &[u8], at: usize) -> Layer {
+    let op = l.op;
+    let auto_pad = l.auto_pad;
+    let rounding = l.rounding;
+    let y = changed_y(l.y, s, at);
+    let x = changed_x(l.x, s, at);
+    let rounding_after = changed_rounding(rounding, value_of(s, at, b"rounding="));
+    let axis = changed_axis(l.axis, value_of(s, at, b"axis="));
+    Layer {
+        op: op,
+        axes: number_or(s, at, b"axes=", l.axes),
+        n: l.n,
+        c: l.c,
+        g: number_or(s, at, b"g=", l.g),
+        o: number_or(s, at, b"o=", l.o),
+        i: number_or(s, at, b"i=", l.i),
+        y: y,
+        x: x,
+        auto_pad: auto_pad,
+        rounding: rounding_after,
+        axis: axis,
+    }
+}
+
+// ---- the cases
+
+fn run_layer(layer: Layer, room: usize)
+    requires { ⌜ room ≤ 400 ⌝ }
+{
+    run_convolution(layer);
+    run_transposed(layer);
+    run_max_pool(layer);
+    run_write(layer, room);
+}
+
+// The record's case at a place; where the next case starts.
+fn run_record(s: &[u8], at: usize) -> usize {
+    let sheet = after_line(s, at);
+    let change = after_sheet(s, sheet);
+    let room = after_line(s, change);
+    let read = read_sheet(part_of(s, sheet, change));
+    match read {
+        Read::Refused(_, _) => print(b" no sheet"),
+        Read::Sheet(layer) => run_layer(
+            changed(layer, s, change),
+            length_at(s, room, b"room=", 400),
+        ),
+    }
+    print(b"\n");
+    after_line(s, room)
+}
+
+// Each element is its own place.
+fn fill_places(tensor: &mut [f32]) {
+    let mut value = 0.0f32;
+    let mut i = 0;
+    while i < tensor.len() {
+        tensor[i] = value;
+        value = value + 1.0;
+        i += 1;
+    }
+}
+
+fn print_plane(plane: &[f32]) {
+    print(b" plane=");
+    let mut i = 0;
+    while i < plane.len() {
+        if 0 < i {
+            print(b",");
+        }
+        print_value(plane[i]);
+        i += 1;
+    }
+}
+
+fn pick(sizes: Five, length: usize, image: u32, channel: u32)
+    requires { ⌜ length ≤ 64 ⌝ }
+{
+    let mut tensor = [0.0f32; 64];
+    fill_places(&mut tensor);
+    print_plane(pick_plane(
+        &tensor[..length],
+        sizes.a,
+        sizes.b,
+        sizes.c,
+        sizes.d,
+        image,
+        channel,
+    ));
+}
+
+// The plane's case at a place; where the next case starts.
+fn run_plane(s: &[u8], at: usize) -> usize {
+    let sizes = after_line(s, at);
+    let length = after_line(s, sizes);
+    let image = after_line(s, length);
+    let channel = after_line(s, image);
+    let list = read_numbers(value_of(s, sizes, b"sizes="), 4);
+    match list {
+        Numbers::NoNumbers => print(b" no sizes"),
+        Numbers::These(f) => pick(
+            f,
+            length_at(s, length, b"length=", 64),
+            number_or(s, image, b"image=", 0),
+            number_or(s, channel, b"channel=", 0),
+        ),
+    }
+    print(b"\n");
+    after_line(s, channel)
+}
+
+// The key of the first line tells the kind of the case: the name under the other key is empty.
+fn run_case(s: &[u8], at: usize) -> usize {
+    let plane = value_of(s, at, b"plane=");
+    let record = value_of(s, at, b"record=");
+    print(plane);
+    print(record);
+    print(b":");
+    if plane.len() == 0 {
+        return run_record(s, at);
+    }
+    run_plane(s, at)
+}
+
+// At most 1,000 cases.
+fn run_all(s: &[u8]) {
+    let mut at = 0;
+    let mut count = 0usize;
+    while count < 1000 {
+        if s.len() <= at {
+            return;
+        }
+        at = run_case(s, at);
+        count += 1;
+    }
+}
+
+fn main() {
+    let mut space = io::large_buffer();
+    let n = io::read_full(STDIN_FILENO, &mut space);
+    run_all(&space[..n]);
+}
