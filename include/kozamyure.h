@@ -75,7 +75,8 @@ koza_answer koza_maxpool(const uint8_t *sheet, size_t sheet_len, const float *in
 /* The first largest element of a plane with rows of `width` elements. 8: width 0, no element, or a length that is no multiple of the width. */
 koza_peak_answer koza_peak(const float *plane, size_t plane_len, size_t width);
 
-/* Reads the sheet and writes it back into the buffer: the same bytes, and nothing beyond them is touched. */
+/* Reads the sheet and writes it back into the buffer. Number 0: the buffer begins with the sheet's own bytes, `length` of them, and nothing beyond them is
+ * touched. */
 koza_written koza_rewrite(const uint8_t *sheet, size_t sheet_len, uint8_t *buffer, size_t buffer_len);
 
 #ifdef __cplusplus
