@@ -67,8 +67,8 @@ module _ (axes : ℕ) (o : OneTwo axes) where
       go : (op : Op) → (axes ≡ 1) ⊎ (axes ≡ 2) → ListOk (kernelCount op axes) (kernelList op axes g o′ i y x)
       go Convolution (inl e) = rw e (record { a = hg; b = ho; c = hi; d = k; e = omega arith }, refl)
       go Convolution (inr e) = rw e (record { a = hg; b = ho; c = hi; d = h; e = k }, refl)
-      go Transposed (inl e) = rw e (record { a = hg; b = hi; c = ho; d = k; e = omega arith }, refl)
-      go Transposed (inr e) = rw e (record { a = hg; b = hi; c = ho; d = h; e = k }, refl)
+      go Transposed (inl e) = rw e (record { a = hg; b = omega (arith, ho, hi); c = omega (arith, ho, hi); d = k; e = omega arith }, refl)
+      go Transposed (inr e) = rw e (record { a = hg; b = omega (arith, ho, hi); c = omega (arith, ho, hi); d = h; e = k }, refl)
       go MaxPool q = pair-ok y x h k
 
 -- ---- what a passed test says
