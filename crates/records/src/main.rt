@@ -3,6 +3,9 @@
 // writer. All three operators are called with the layer, over an input (2), a kernel (3) and outputs of one element, and the layer is written as a sheet.
 // A case of a plane has five: its name, the tensor's sizes, its length, the image and the channel. The tensor's elements are their own places.
 // The outputs and the buffer hold marks before the calls: `kept` says that they still do.
+use cases::after_line;
+use cases::after_sheet;
+use cases::value_of;
 use convolution::convolution;
 use layer::Axis;
 use layer::Layer;
@@ -16,12 +19,10 @@ use sheet::read_sheet;
 use sheet::write_sheet;
 use tensor::pick_plane;
 use text::Five;
-use text::Line;
 use text::Number;
 use text::Numbers;
 use text::is_text;
 use text::part_of;
-use text::read_line;
 use text::read_number;
 use text::read_numbers;
 use text::starts;
@@ -202,34 +203,6 @@ fn run_write(layer: Layer, room: usize)
 }
 
 // ---- reading the cases
-
-// The value of the line at a place, after its key; empty where there is no such line.
-fn value_of<'a>(s: &'a [u8], at: usize, key: &[u8]) -> &'a [u8] {
-    let line = read_line(s, at, key);
-    match line {
-        Line::Value(start, end, _) => part_of(s, start, end),
-        Line::NoLine => part_of(s, 0, 0),
-    }
-}
-
-// Where the next line starts.
-fn after_line(s: &[u8], at: usize) -> usize {
-    let line = read_line(s, at, b"");
-    match line {
-        Line::Value(_, _, next) => next,
-        Line::NoLine => s.len(),
-    }
-}
-
-fn after_sheet(s: &[u8], at: usize) -> usize {
-    let mut next = at;
-    let mut lines = 0usize;
-    while lines < 12 {
-        next = after_line(s, next);
-        lines += 1;
-    }
-    next
-}
 
 // The number of the line at a place, where it has the key; else the other number.
 fn number_or(s: &[u8], at: usize, key: &[u8], other: u32) -> u32 {
