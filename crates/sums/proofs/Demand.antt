@@ -109,7 +109,9 @@ running taps (suc n) l h =
 
 -- ---- demand 3 for one output
 pub whole-sum : (taps : ℕ → Tap) (k : ℕ) → k ≤ 4096 → SmallTaps taps k → WholeSum taps k (sumFrom plusZero taps k)
-whole-sum taps k l h = let g = running taps k l h in record { whole = g .whole; near = rw (← errors-is k) (g .close .near); same = g .close .same }
+whole-sum taps k l h =
+    let g = running taps k l h in
+    record { whole = g .whole; near = omega (arith, g .close .near, errors-is k); same = λ m. g .close .same (omega (arith, m)) }
 
 -- "K is I·KY·KX, also where fewer taps reach an output": a sum of n taps, where the others of the k take no part
 pub whole-sum-fewer : (taps : ℕ → Tap) (n k : ℕ) → n ≤ k → k ≤ 4096 → SmallTaps taps n → ((t : ℕ) → n ≤ t → t < k → taps t ≡ none) → WholeSum taps k (sumFrom plusZero taps n)
