@@ -1,6 +1,6 @@
 -- What `koza_rewrite` owes, by what the reader says of its sheet: the two equations, and that the number 0 is that of a sheet written back as it was.
 use Prim.Native.Nat.{ℕ}
-use mathlib.Core.Path.{_≡_, refl, sym, ap, _∙_}
+use mathlib.Core.Path.{_≡_, sym, ap, _∙_}
 use mathlib.Core.List.{List}
 use lib.ListN.{length, take}
 use Rattle.layer.specs.declared.Layer.{Layer}
