@@ -8,6 +8,7 @@ use Rattle.sheet.proofs.RoundTrip.{way-back}
 use Rattle.sheet.proofs.write_sheet.Statement.{statement}
 use Rattle.sheet.proofs.write_sheet.Tie as tie
 
+-- owning the record tells that each of its u32 numbers is below 2^32; the fields stand in their order, behind the record's bytes
 fits : (c : tie.Start) → LayerFits (c .args .layer)
 fits c =
     let l = c .good .0 in
