@@ -1,20 +1,19 @@
 -- How long a report is: a line is its key, its numbers and the line end, and a number has at most ten digits.
-use Prim.Native.Nat.{ℕ, _+_, _≤_}
-use mathlib.Core.Path.{_≡_, refl, _∙_}
-use mathlib.Core.Bool.{Bool, true, false, cond}
-use mathlib.Core.List.{List, [], _∷_, _++_}
+use Prim.Native.Nat.{ℕ, _≤_}
+use mathlib.Core.Path.{_≡_, refl}
+use mathlib.Core.List.{List, _++_}
 use native.Mathlib.Omega.{arith}
-use lib.Dec.{eqb}
 use lib.ListN.{length, length-append}
 use Rattle.text.specs.Texts.{text}
 use Rattle.text.specs.Numbers.{decimal}
 use Rattle.text.specs.Lists.{showNumbers}
-use Rattle.text.specs.Lines.{showLine}
 use Rattle.text.specs.Put.{Put}
-use Rattle.text.specs.declared.Five.{Five}
 use Rattle.text.proofs.NumberLaws.{decimal-10}
-use Rattle.text.proofs.ListLaws.{InRange, numbers-length}
+use Rattle.text.proofs.ListLaws.{numbers-length}
+use Rattle.text.proofs.LineLaws.{line-length}
 use Rattle.sheet.specs.Layers.{inputCount, inputList}
+use Rattle.sheet.proofs.Fits.{U32}
+use Rattle.sheet.proofs.LayerLaws.{input-range}
 use Rattle.layer.specs.declared.Layer.{Layer}
 use Rattle.shape.specs.declared.Shape.{Shape}
 use Rattle.shape.specs.declared.Judged.{Judged}
@@ -25,13 +24,6 @@ use Rattle.report.specs.declared.Output.{Output}
 use Rattle.report.specs.declared.OutputSizes.the-variants.{Sizes}
 use Rattle.report.specs.Output.{outputIn, outputOf}
 use Rattle.report.specs.Report.{answerLine, lineLine, outputLine}
-
-abbrev U32 : ℕ → Type 0
-U32 n = n ≤ 4294967295
-
-line-length : (key v : List ℕ) → length (showLine key v) ≡ length key + length v + 1
-unfolding showLine
-line-length key v = length-append key (v ++ (10 ∷ [])) ∙ omega (arith, length-append v (10 ∷ []))
 
 -- what is put from the start of a buffer ends no later than its length says
 pub put-end : {before left : List ℕ} {xs : List ℕ} {next : ℕ} → Put before 0 xs next left → length xs ≤ 80 → next ≤ 80
@@ -47,15 +39,6 @@ refusal-length number line h k =
 pub number-length : (number : ℕ) → U32 number → length (answerLine number) ≤ 80
 number-length number h = omega (arith, line-length (text "answer=") (decimal number), decimal-10 number h)
 
-in-range : (axes n c y x : ℕ) → U32 n → U32 c → U32 y → U32 x → InRange (inputList axes n c y x)
-in-range axes n c y x hn hc hy hx = go (eqb axes 1)
-  where
-    go : (b : Bool)
-        → let p : Five = cond b (record { a = x; b = 0; c = 0; d = 0; e = 0 }) (record { a = y; b = x; c = 0; d = 0; e = 0 }) in
-        InRange (record { a = n; b = c; c = p .a; d = p .b; e = 0 })
-    go true = record { a = hn; b = hc; c = hx; d = omega arith; e = omega arith }
-    go false = record { a = hn; b = hc; c = hy; d = hx; e = omega arith }
-
 -- "answer=0" and "output=" with three or four numbers
 pub output-length : (axes : ℕ) (o : Output) → axes ≤ 2 → U32 (o .n) → U32 (o .c) → U32 (o .y) → U32 (o .x)
     → length (answerLine 0 ++ outputLine axes o) ≤ 80
@@ -63,7 +46,7 @@ output-length axes o h hn hc hy hx =
     let f = inputList axes (o .n) (o .c) (o .y) (o .x) in
     rw (length-append (answerLine 0) (outputLine axes o))
     (omega
-    (arith, h, line-length (text "answer=") (decimal 0), line-length (text "output=") (showNumbers (inputCount axes) f), decimal-10 0 (omega arith), numbers-length (inputCount axes) f (in-range axes (o .n) (o .c) (o .y) (o .x) hn hc hy hx)))
+    (arith, h, line-length (text "answer=") (decimal 0), line-length (text "output=") (showNumbers (inputCount axes) f), decimal-10 0 (omega arith), numbers-length (inputCount axes) f (input-range axes (o .n) (o .c) (o .y) (o .x) hn hc hy hx)))
 
 -- a layer with an output has at most two axes
 pub output-axes : (l : Layer) (o : Output) → outputOf l ≡ Sizes o → l .axes ≤ 2

@@ -6,9 +6,10 @@ use mathlib.Core.Bool.{Bool, true, false, cond, not, _&&_}
 use native.Mathlib.Omega.{arith}
 use lib.Dec.{eqb}
 use borrow.Author.Tests.{eq-eqb, ne-eqb, eqb-true}
-use Rattle.text.specs.Lists.{shown, showNumbers, numbers}
+use Rattle.text.specs.Lists.{showNumbers, numbers}
 use Rattle.text.specs.Inverse.{Inverse}
 use Rattle.text.specs.declared.Five.{Five}
+use Rattle.text.proofs.ListLaws.{keep, InRange, numbers-kept}
 use Rattle.layer.specs.Defaults.{defaultAxis}
 use Rattle.layer.specs.declared.Op.{Op}
 use Rattle.layer.specs.declared.Op.the-variants.{Convolution, Transposed, MaxPool}
@@ -43,6 +44,15 @@ kernel-inverse Transposed axes o = more-inverse axes o
 kernel-inverse MaxPool axes o = pair-inverse axes o
 
 -- ---- the lists of a layer: their numbers are in range, and those that are not shown are 0
+pub input-range : (axes n c y x : ℕ) → U32 n → U32 c → U32 y → U32 x → InRange (inputList axes n c y x)
+input-range axes n c y x hn hc h k = go (eqb axes 1)
+  where
+    go : (b : Bool)
+        → let p : Five = cond b (record { a = x; b = 0; c = 0; d = 0; e = 0 }) (record { a = y; b = x; c = 0; d = 0; e = 0 }) in
+        InRange (record { a = n; b = c; c = p .a; d = p .b; e = 0 })
+    go true = record { a = hn; b = hc; c = k; d = omega arith; e = omega arith }
+    go false = record { a = hn; b = hc; c = h; d = k; e = omega arith }
+
 module _ (axes : ℕ) (o : OneTwo axes) where
   pub pair-ok : (y x : ℕ) → U32 y → U32 x → ListOk axes (pairList axes y x)
   unfolding OneTwo
@@ -54,11 +64,11 @@ module _ (axes : ℕ) (o : OneTwo axes) where
 
   pub input-ok : (n c y x : ℕ) → U32 n → U32 c → U32 y → U32 x → ListOk (inputCount axes) (inputList axes n c y x)
   unfolding OneTwo
-  input-ok n c y x hn hc h k = go o
+  input-ok n c y x hn hc h k = (input-range axes n c y x hn hc h k, go o)
     where
-      go : (axes ≡ 1) ⊎ (axes ≡ 2) → ListOk (axes + 2) (inputList axes n c y x)
-      go (inl e) = rw e (record { a = hn; b = hc; c = k; d = omega arith; e = omega arith }, refl)
-      go (inr e) = rw e (record { a = hn; b = hc; c = h; d = k; e = omega arith }, refl)
+      go : (axes ≡ 1) ⊎ (axes ≡ 2) → keep (axes + 2) (inputList axes n c y x) ≡ inputList axes n c y x
+      go (inl e) = rw e
+      go (inr e) = rw e
 
   pub kernel-ok : (op : Op) (g o i y x : ℕ) → U32 g → U32 o → U32 i → U32 y → U32 x → ListOk (kernelCount op axes) (kernelList op axes g o i y x)
   unfolding OneTwo
@@ -170,23 +180,27 @@ layer-back l p =
 module _ (axes : ℕ) (o : OneTwo axes) where
   pub pair-text : (φ : Axis → ℕ) (f : Five) (unused used : Axis) → (axes ≡ 2 → φ used ≡ f .a)
       → showNumbers axes (pairList axes (φ (yAxis axes unused used)) (lastOf axes (f .a) (f .b))) ≡ showNumbers axes f
-  unfolding OneTwo shown showNumbers
-  pair-text φ f unused used h = ⊎-elim (λ (e : axes ≡ 1). rw e) (λ (e : axes ≡ 2). rw (e, h e)) o
+  unfolding OneTwo
+  pair-text φ f unused used h =
+      ⊎-elim (λ (e : axes ≡ 1). rw e (numbers-kept 0 f (omega arith))) (λ (e : axes ≡ 2). rw (e, h e) (numbers-kept 1 f (omega arith))) o
 
   pub input-text : (φ : Axis → ℕ) (f : Five) (unused used : Axis) → (axes ≡ 2 → φ used ≡ f .c)
       → showNumbers (inputCount axes) (inputList axes (f .a) (f .b) (φ (yAxis axes unused used)) (lastOf axes (f .c) (f .d)))
       ≡ showNumbers (inputCount axes) f
-  unfolding OneTwo shown showNumbers
-  input-text φ f unused used h = ⊎-elim (λ (e : axes ≡ 1). rw e) (λ (e : axes ≡ 2). rw (e, h e)) o
+  unfolding OneTwo
+  input-text φ f unused used h =
+      ⊎-elim (λ (e : axes ≡ 1). rw e (numbers-kept 2 f (omega arith))) (λ (e : axes ≡ 2). rw (e, h e) (numbers-kept 3 f (omega arith))) o
 
   pub kernel-text : (op : Op) (φ : Axis → ℕ) (f : Five) (unused used : Axis) → (axes ≡ 2 → φ used ≡ kernelOf op f .first)
       → showNumbers (kernelCount op axes)
       (kernelList op axes (kernelOf op f .g) (kernelOf op f .o) (kernelOf op f .i) (φ (yAxis axes unused used))
       (lastOf axes (kernelOf op f .first) (kernelOf op f .second)))
       ≡ showNumbers (kernelCount op axes) f
-  unfolding OneTwo shown showNumbers
-  kernel-text Convolution φ f unused used h = ⊎-elim (λ (e : axes ≡ 1). rw e) (λ (e : axes ≡ 2). rw (e, h e)) o
-  kernel-text Transposed φ f unused used h = ⊎-elim (λ (e : axes ≡ 1). rw e) (λ (e : axes ≡ 2). rw (e, h e)) o
+  unfolding OneTwo
+  kernel-text Convolution φ f unused used h =
+      ⊎-elim (λ (e : axes ≡ 1). rw e (numbers-kept 3 f (omega arith))) (λ (e : axes ≡ 2). rw (e, h e) (numbers-kept 4 f (omega arith))) o
+  kernel-text Transposed φ f unused used h =
+      ⊎-elim (λ (e : axes ≡ 1). rw e (numbers-kept 3 f (omega arith))) (λ (e : axes ≡ 2). rw (e, h e) (numbers-kept 4 f (omega arith))) o
   kernel-text MaxPool φ f unused used h = pair-text φ f unused used h
 
 -- nothing of such a layer is hidden

@@ -159,6 +159,18 @@ numbers-back (suc k) t f m e = go (ltb (place 44 t) (length t)) refl e
           rw (h .4) (read-range (h .0) (h .1) (d .1) (i .1)),
         )
 
+-- the numbers after the first k are not shown
+kept-shown : (k : ℕ) (f : Five) → k < 5 → shown (suc k) (keep (suc k) f) ≡ shown (suc k) f
+unfolding shown
+kept-shown zero f h = refl
+kept-shown (suc k) f h =
+    ap (λ (t : List ℕ). decimal (f .a) ++ (44 ∷ t))
+    (sym (show-more k (f .a) (keep (suc k) (laterItems f)) (omega arith)) ∙ kept-shown k (laterItems f) (omega arith))
+
+pub numbers-kept : (k : ℕ) (f : Five) → k < 5 → showNumbers (suc k) (keep (suc k) f) ≡ showNumbers (suc k) f
+unfolding showNumbers
+numbers-kept k f h = let least : min (suc k) 5 ≡ suc k = omega arith in rw least (kept-shown k f h)
+
 -- no end of line stands in a list
 pub numbers-absent : (k : ℕ) (f : Five) → place 10 (shown (suc k) f) ≡ length (shown (suc k) f)
 unfolding shown place

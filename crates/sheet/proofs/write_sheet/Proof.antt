@@ -2,42 +2,24 @@
 use borrow.Author.Needs.{needs}
 use native.Mathlib.Omega.{arith}
 use mathlib.Core.Path.{sym, _∙_}
-use Rattle.sheet.proofs.Fits.{LayerFits}
+use Rattle.sheet.proofs.Fits.{LayerFits, axis-fits}
 use Rattle.sheet.proofs.WriterLaws.{fault-answer, fault-buffer}
 use Rattle.sheet.proofs.RoundTrip.{way-back}
 use Rattle.sheet.proofs.write_sheet.Statement.{statement}
 use Rattle.sheet.proofs.write_sheet.Tie as tie
 
--- owning the record tells that each of its u32 numbers is below 2^32; the fields stand in their order, behind the record's bytes
+-- what owning the record tells, as in `axis-fits`
 fits : (c : tie.Start) → LayerFits (c .args .layer)
 fits c =
     let l = c .good .0 in
-    let y = l .1 .1 .1 .1 .1 .1 .1 .1 .1 .0 in
-    let x = l .1 .1 .1 .1 .1 .1 .1 .1 .1 .1 .0 in
     record {
       n = omega (arith, l .1 .1 .1 .1 .0 .1);
       c = omega (arith, l .1 .1 .1 .1 .1 .0 .1);
       g = omega (arith, l .1 .1 .1 .1 .1 .1 .0 .1);
       o = omega (arith, l .1 .1 .1 .1 .1 .1 .1 .0 .1);
       i = omega (arith, l .1 .1 .1 .1 .1 .1 .1 .1 .0 .1);
-      y = record {
-        input = omega (arith, y .1 .1 .0 .1);
-        kernel = omega (arith, y .1 .1 .1 .0 .1);
-        stride = omega (arith, y .1 .1 .1 .1 .0 .1);
-        dilation = omega (arith, y .1 .1 .1 .1 .1 .0 .1);
-        pad-begin = omega (arith, y .1 .1 .1 .1 .1 .1 .0 .1);
-        pad-end = omega (arith, y .1 .1 .1 .1 .1 .1 .1 .0 .1);
-        output-padding = omega (arith, y .1 .1 .1 .1 .1 .1 .1 .1 .0 .1);
-      };
-      x = record {
-        input = omega (arith, x .1 .1 .0 .1);
-        kernel = omega (arith, x .1 .1 .1 .0 .1);
-        stride = omega (arith, x .1 .1 .1 .1 .0 .1);
-        dilation = omega (arith, x .1 .1 .1 .1 .1 .0 .1);
-        pad-begin = omega (arith, x .1 .1 .1 .1 .1 .1 .0 .1);
-        pad-end = omega (arith, x .1 .1 .1 .1 .1 .1 .1 .0 .1);
-        output-padding = omega (arith, x .1 .1 .1 .1 .1 .1 .1 .1 .0 .1);
-      };
+      y = axis-fits _ _ (l .1 .1 .1 .1 .1 .1 .1 .1 .1 .0);
+      x = axis-fits _ _ (l .1 .1 .1 .1 .1 .1 .1 .1 .1 .1 .0);
     }
 
 write-fine-requires : tie.Need-write-fine-requires
