@@ -1,26 +1,20 @@
 /* Kozamyure: convolution, transposed convolution and max pooling with indices over lent f32 tensors.
  *
- * Every call takes the text of a layer sheet (twelve key=value lines, see README.md) and lent memory. No caller need check anything first: every call is
- * answered, and a call whose number is not 0 leaves every lent buffer as it was. A pointer may be null only where its length is 0.
+ * Every call takes the text of a layer sheet (twelve key=value lines, see README.md) and lent memory. No caller need check sheet, sizes, lengths or elements
+ * first: every call is answered, and a call whose number is not 0 leaves every lent buffer as it was.
  *
- * The numbers:
- *    0  done: every output element is written
- *    1  axes is not 1 or 2, or a dimension that the operator uses is outside its limit
- *    2  an attribute outside its limit, a sheet of another operator, a same mode with transposed, axis outside its range, or an unused field not at its
- *       default
- *    3  C is not G*I (convolutions)
- *    4  more than 4,096 taps (convolutions), or more than 16,777,216 elements in input or kernel
- *    5  the kernel does not fit on some axis: P < k' (explicit) or in < k' (valid); transposed with an output size below 1
- *    6  more than 16,777,216 output elements
- *    7  pooling: some window holds no element
- *    8  a lent buffer whose length is not exactly its element count
- *    9  an element above 2^40 in magnitude or NaN: `tensor` (0 input, looked at first; 1 kernel) and the first `place` in it
- *   20  the sheet: a wrong key or no line end at `line` (bytes left over: line 13)
- *   21  the sheet: a number, or a count of numbers, that breaks the rules at `line`
- *   22  the sheet: an unknown word at `line`
- *   23  the sheet: a line that its operator does not use is not at its default at `line`
- *   24  koza_rewrite alone: the buffer is shorter than the sheet
- * Checks go by number, lowest first, the sheet's own numbers before all others. A line, tensor or place that a number does not use is 0.
+ * What is proved holds under these assumptions, which no call can check:
+ *  - A pointer is good for its length, and aligned for its element (4 bytes for float, 8 for int64_t). Lengths count elements, not bytes. A pointer may be
+ *    null only where its length is 0.
+ *  - A buffer that is written overlaps no other buffer of the call (koza_overlap tells), and no other thread uses it meanwhile. Buffers that are only read may
+ *    overlap each other. A convolution in place answers 0 and leaves wrong sums: nothing is promised of it.
+ *  - The floating-point environment is the default one: rounding to nearest, no flush to zero, exceptions masked (koza_float_mode_ok tells of the first two).
+ *    A program linked with -ffast-math has another.
+ *  - x86-64 Linux.
+ * The contracts do not tell one NaN from another. A call leaves none in an output that it writes; one that stood there before a refused call stays.
+ *
+ * The library has no state and calls nothing, neither libc nor a heap: every function may be called from several threads and from a signal handler. It takes
+ * less than 2 kB of stack.
  */
 #ifndef KOZAMYURE_H
 #define KOZAMYURE_H
@@ -32,7 +26,64 @@
 extern "C" {
 #endif
 
-/* `line` for 20 to 23; `tensor` and `place` for 9. */
+/* ---- versions */
+
+/* The version of this header. koza_version() tells that of the archive: a program that was compiled with another header finds out. */
+#define KOZA_VERSION_MAJOR 1
+#define KOZA_VERSION_MINOR 1
+#define KOZA_VERSION_PATCH 0
+#define KOZA_VERSION (KOZA_VERSION_MAJOR * 10000 + KOZA_VERSION_MINOR * 100 + KOZA_VERSION_PATCH)
+
+uint32_t koza_version(void);
+
+/* ---- the numbers that a call comes back with */
+
+/* Checks go by number, lowest first, the sheet's own numbers (20 to 23) before all others. README.md says which line of the sheet to look at. */
+enum koza_number {
+    KOZA_DONE = 0,
+    KOZA_DIMENSION = 1,
+    KOZA_ATTRIBUTE = 2,
+    KOZA_CHANNELS = 3,
+    KOZA_ELEMENTS = 4,
+    KOZA_KERNEL_FIT = 5,
+    KOZA_OUTPUT_ELEMENTS = 6,
+    KOZA_EMPTY_WINDOW = 7,
+    KOZA_LENGTH = 8,
+    KOZA_BAD_ELEMENT = 9,
+    KOZA_SHEET_KEY = 20,
+    KOZA_SHEET_NUMBER = 21,
+    KOZA_SHEET_WORD = 22,
+    KOZA_SHEET_UNUSED = 23,
+    KOZA_SHEET_ROOM = 24
+};
+
+/* What a number means. */
+static inline const char *koza_text(uint32_t number) {
+    switch (number) {
+    case KOZA_DONE: return "done: every output element is written";
+    case KOZA_DIMENSION: return "axes is not 1 or 2, or a dimension that the operator uses is outside its limit";
+    case KOZA_ATTRIBUTE:
+        return "an attribute outside its limit, a sheet of another operator, a same mode with transposed, axis outside its range, or an unused field not at its "
+               "default";
+    case KOZA_CHANNELS: return "C is not G*I";
+    case KOZA_ELEMENTS: return "more than 4,096 taps, or more than 16,777,216 elements in input or kernel";
+    case KOZA_KERNEL_FIT: return "the kernel does not fit on some axis, or a transposed output size is below 1";
+    case KOZA_OUTPUT_ELEMENTS: return "more than 16,777,216 output elements";
+    case KOZA_EMPTY_WINDOW: return "pooling: some window holds no element";
+    case KOZA_LENGTH: return "a buffer's length is not exactly its element count (elements, not bytes: koza_lengths tells them)";
+    case KOZA_BAD_ELEMENT: return "an element above 2^40 in magnitude or NaN";
+    case KOZA_SHEET_KEY: return "the sheet: a wrong key or no line end, or bytes left over (line 13)";
+    case KOZA_SHEET_NUMBER: return "the sheet: a number, or a count of numbers, that breaks the rules";
+    case KOZA_SHEET_WORD: return "the sheet: an unknown word";
+    case KOZA_SHEET_UNUSED: return "the sheet: a line that its operator does not use is not at its default";
+    case KOZA_SHEET_ROOM: return "the buffer is shorter than the sheet";
+    default: return "no number of this library";
+    }
+}
+
+/* ---- answers: what a number does not use is 0 */
+
+/* `line` for 20 to 23; `tensor` (0 input, looked at first; 1 kernel) and the first bad `place` in it for 9. */
 typedef struct {
     uint32_t number, line, tensor;
     size_t place;
@@ -43,6 +94,13 @@ typedef struct {
     uint32_t number, line, axes, n, c, y, x;
 } koza_shape_answer;
 
+/* The element counts of the buffers that a call takes; zeros but for `number` and `line` where it is refused. `kernel` is 0 for maxpool, whose values and
+ * indices have `output` elements each. */
+typedef struct {
+    uint32_t number, line;
+    size_t input, kernel, output;
+} koza_lengths_answer;
+
 /* The first largest element of a plane; zeros but for `number` and, for 9, `place` where the call is refused. */
 typedef struct {
     uint32_t number;
@@ -51,16 +109,20 @@ typedef struct {
     size_t row, column;
 } koza_peak_answer;
 
-/* The length of the sheet that was written; 0 where the call is refused. */
+/* The length of the sheet that was written; 0 where the call is refused. `line` for 20 to 23. */
 typedef struct {
     uint32_t number, line;
     size_t length;
 } koza_written;
 
-/* Reads the sheet and makes checks 1 to 7 of its own operator. */
-koza_shape_answer koza_shape(const uint8_t *sheet, size_t sheet_len);
+/* A part of a tensor, in elements; `length` 0 and `start` 0 where it is refused. */
+typedef struct {
+    size_t start, length;
+} koza_part;
 
-/* Input [N, C, Y, X], kernel [G, O, I, KY, KX], output [N, G*O, OY, OX], all row-major. Lengths count elements. */
+/* ---- the operators */
+
+/* Input [N, C, Y, X], kernel [G, O, I, KY, KX], output [N, G*O, OY, OX], all row-major. Numbers 0 to 9 and 20 to 23. */
 koza_answer koza_convolution(const uint8_t *sheet, size_t sheet_len, const float *input, size_t input_len, const float *kernel, size_t kernel_len,
                              float *output, size_t output_len);
 
@@ -72,12 +134,48 @@ koza_answer koza_transposed(const uint8_t *sheet, size_t sheet_len, const float 
 koza_answer koza_maxpool(const uint8_t *sheet, size_t sheet_len, const float *input, size_t input_len, float *values, size_t values_len, int64_t *indices,
                          size_t indices_len);
 
-/* The first largest element of a plane with rows of `width` elements. 8: width 0, no element, or a length that is no multiple of the width. */
-koza_peak_answer koza_peak(const float *plane, size_t plane_len, size_t width);
+/* ---- sheets */
+
+/* A buffer of this many bytes has room for every sheet. (The program `judge` looks at as many bytes of its input.) */
+#define KOZA_SHEET_MAX 512
+
+/* Read the sheet and make checks 1 to 7 of its own operator: the output's sizes, and the lengths of the buffers that the operator takes. */
+koza_shape_answer koza_shape(const uint8_t *sheet, size_t sheet_len);
+koza_lengths_answer koza_lengths(const uint8_t *sheet, size_t sheet_len);
 
 /* Reads the sheet and writes it back into the buffer. Number 0: the buffer begins with the sheet's own bytes, `length` of them, and nothing beyond them is
- * touched. */
+ * touched. Numbers 0 and 20 to 24. */
 koza_written koza_rewrite(const uint8_t *sheet, size_t sheet_len, uint8_t *buffer, size_t buffer_len);
+
+/* ---- planes */
+
+/* The plane of an image and a channel of the tensor [N, C, Y, X]: `length` elements from tensor + `start` on. It is refused where a size is outside its limit,
+ * tensor_len is not N*C*Y*X, or image or channel is not below its count. No element is looked at. */
+koza_part koza_plane(const float *tensor, size_t tensor_len, uint32_t n, uint32_t c, uint32_t y, uint32_t x, uint32_t image, uint32_t channel);
+
+/* The first largest element of a plane with rows of `width` elements. 8: width 0, no element, or a length that is no multiple of the width. 9: a bad element,
+ * at `place`. */
+koza_peak_answer koza_peak(const float *plane, size_t plane_len, size_t width);
+
+/* ---- helpers of the header alone, not proved */
+
+/* Whether the floating-point mode of this thread is the one that the promises assume: rounding to nearest, subnormal numbers kept in operands and results. */
+static inline int koza_float_mode_ok(void) {
+    const float step = 1.0f / 8388608.0f; /* 2^-23, from 1 to the next float */
+    volatile float one = 1.0f, next = 1.0f + step, half = step / 2.0f;
+    volatile float least_normal = 1.17549435e-38f, least = 1.40129846e-45f, large = 8388608.0f;
+    volatile float down = one + half;          /* halfway between 1 and the next float: 1 is even */
+    volatile float up = next + half;           /* halfway between the next two: the upper one is even */
+    volatile float result = least_normal / 2;  /* a subnormal result */
+    volatile float operand = least * large;    /* a subnormal operand: 2^-149 * 2^23 is 2^-126 */
+    return down == one && up == 1.0f + 2.0f * step && result != 0.0f && operand == least_normal;
+}
+
+/* Whether two buffers, given by their bytes, have a byte in common. */
+static inline int koza_overlap(const void *a, size_t a_bytes, const void *b, size_t b_bytes) {
+    uintptr_t p = (uintptr_t)a, q = (uintptr_t)b;
+    return a_bytes != 0 && b_bytes != 0 && (p <= q ? q - p < a_bytes : p - q < b_bytes);
+}
 
 #ifdef __cplusplus
 }

@@ -1,13 +1,18 @@
 -- The C boundary. Each call takes the text of a sheet: a sheet that is not read is refused with its number, 20 to 23, and its line; else the answer is that of
--- the function on the layer that the sheet says. What a number does not use is 0.
-use Prim.Native.Nat.{ℕ}
+-- the function on the layer that the sheet says. "A tensor, place or line that a number doesn't use is 0."
+use Prim.Native.Nat.{ℕ, _+_, _*_}
 use mathlib.Core.List.{List}
 use lib.IntN.{ℤ}
 use lib.ListN.{length}
 use lib.Ieee.{Float}
 use Rattle.layer.specs.declared.Op.{Op}
+use Rattle.layer.specs.declared.Op.the-variants.{Convolution, Transposed, MaxPool}
 use Rattle.layer.specs.declared.Answer.{Answer}
 use Rattle.shape.specs.declared.Shape.{Shape}
+use Rattle.shape.specs.declared.Judged.{Judged}
+use Rattle.shape.specs.declared.Judged.the-variants.{Accepted, Refused as NotAccepted}
+use Rattle.shape.specs.Judge.{judged}
+use Rattle.tensor.specs.declared.Part.{Part}
 use Rattle.tensor.specs.declared.PeakAnswer.{PeakAnswer}
 use Rattle.sums.specs.Taps.{Place}
 use Rattle.call.specs.Call.{answerOf, contentsOf}
@@ -21,12 +26,14 @@ use Rattle.report.specs.declared.OutputSizes.the-variants.{Sizes, NoSizes}
 use Rattle.report.specs.Output.{outputOf}
 use Rattle.kozamyure.specs.declared.CallAnswer.{CallAnswer}
 use Rattle.kozamyure.specs.declared.ShapeAnswer.{ShapeAnswer}
+use Rattle.kozamyure.specs.declared.LengthsAnswer.{LengthsAnswer}
+use Rattle.kozamyure.specs.declared.PlanePart.{PlanePart}
 use Rattle.kozamyure.specs.declared.PeakFound.{PeakFound}
 use Rattle.kozamyure.specs.declared.SheetWritten.{SheetWritten}
 
 -- ---- the operators
 
--- a sheet that is not read
+-- "A refused read hands over the number and line and no record": a sheet that is not read
 abbrev pub unread : ℕ → ℕ → CallAnswer
 unread number line = record { number = number; line = line; tensor = 0; place = 0 }
 
@@ -38,7 +45,7 @@ unfoldable pub callAnswer : Op → Read → List Float → List Float → ℕ �
 callAnswer op (Sheet l) input kernel output = answered (answerOf op l input kernel output)
 callAnswer op (Refused number line) input kernel output = unread number line
 
--- a refused call leaves its output as it was
+-- "Any number but 0 leaves all lent memory at its entry contents."
 unfoldable pub callContents : Op → (Shape → ℕ → ℕ → Place) → Read → List Float → List Float → List Float → List Float
 callContents op place (Sheet l) input kernel before = contentsOf op place l input kernel before
 callContents op place (Refused number line) input kernel before = before
@@ -68,6 +75,31 @@ unfoldable pub shapeAnswer : Read → ShapeAnswer
 shapeAnswer (Sheet l) = sizesShape (l .axes) (outputOf l)
 shapeAnswer (Refused number line) = noShape number line
 
+-- ---- the lengths of the slices that the sheet's own operator takes, by its checks 1 to 7
+
+abbrev pub noLengths : ℕ → ℕ → LengthsAnswer
+noLengths number line = record { number = number; line = line; input = 0; kernel = 0; output = 0 }
+
+-- pooling takes no kernel
+abbrev pub kernelLength : Op → ℕ → ℕ
+kernelLength Convolution weights = weights
+kernelLength Transposed weights = weights
+kernelLength MaxPool weights = 0
+
+-- the counts that number 8 goes by: "a lent slice whose length is not exactly its element count"
+abbrev pub lengthsIn : Op → Judged → LengthsAnswer
+lengthsIn op (Accepted s) = record { number = 0; line = 0; input = s .inputs; kernel = kernelLength op (s .weights); output = s .outputs }
+lengthsIn op (NotAccepted number) = noLengths number 0
+
+unfoldable pub lengthsAnswer : Read → LengthsAnswer
+lengthsAnswer (Sheet l) = lengthsIn (l .op) (judged (l .op) l)
+lengthsAnswer (Refused number line) = noLengths number line
+
+-- ---- the plane picker: the part of the caller's own slice
+
+abbrev pub planePart : Part → PlanePart
+planePart p = record { start = p .start; length = p .length }
+
 -- ---- the peak finder
 
 abbrev pub peakFound : PeakAnswer → PeakFound
@@ -78,6 +110,7 @@ peakFound a = record { number = a .number; place = a .place; value = a .peak .va
 abbrev pub writtenBack : Written → SheetWritten
 writtenBack w = record { number = w .number; line = w .line; length = w .length }
 
+-- "a refused write tells length 0", and so does a sheet that is not read
 unfoldable pub rewriteAnswer : Read → ℕ → SheetWritten
 rewriteAnswer (Sheet l) room = writtenBack (writeSheet l room)
 rewriteAnswer (Refused number line) room = record { number = number; line = line; length = 0 }
@@ -85,3 +118,8 @@ rewriteAnswer (Refused number line) room = record { number = number; line = line
 unfoldable pub rewriteBuffer : Read → List ℕ → List ℕ
 rewriteBuffer (Sheet l) buffer = bufferAfter l buffer
 rewriteBuffer (Refused number line) buffer = buffer
+
+-- ---- the version of the library, 1.1.0
+
+abbrev pub version : ℕ
+version = 1 * 10000 + 1 * 100 + 0

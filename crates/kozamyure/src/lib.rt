@@ -2,23 +2,29 @@
 use convolution::convolution;
 use layer::Answer;
 use layer::Layer;
+use layer::Op;
 use pooling::max_pool;
 use report::OutputSizes;
 use report::output_sizes;
+use shape::Judged;
+use shape::judge;
 use sheet::Read;
 use sheet::read_sheet;
 use sheet::write_sheet;
 use tensor::find_peak;
+use tensor::plane_part;
 use transposed::transposed;
 ghost use mathlib.Core.Path.{_≡_};
 ghost use lib.ListN.{length, take};
 ghost use Rattle.layer.specs.declared.Op.the-variants.{Convolution, Transposed};
+ghost use Rattle.shape.specs.Judge.{judged};
 ghost use Rattle.tensor.specs.Peak.{peakOf};
+ghost use Rattle.tensor.specs.Plane.{partOf};
 ghost use Rattle.convolution.specs.Convolution.{placeOf as convolutionPlaces};
 ghost use Rattle.transposed.specs.Transposed.{placeOf as transposedPlaces};
 ghost use Rattle.sheet.specs.Reader.{readSheet};
 ghost use Rattle.report.specs.Output.{outputOf};
-ghost use Rattle.kozamyure.specs.Boundary.{unread, answered, callAnswer, callContents, poolAnswer, poolValues, poolIndices, noShape, sizesShape, shapeAnswer, peakFound, rewriteAnswer, rewriteBuffer};
+ghost use Rattle.kozamyure.specs.Boundary.{unread, answered, callAnswer, callContents, poolAnswer, poolValues, poolIndices, noShape, sizesShape, shapeAnswer, noLengths, kernelLength, lengthsIn, lengthsAnswer, planePart, peakFound, rewriteAnswer, rewriteBuffer, version};
 
 // An operator's answer: the line for numbers 20 to 23, the tensor and the place for 9.
 #[repr(C)]
@@ -39,6 +45,23 @@ pub struct ShapeAnswer {
     pub c: u32,
     pub y: u32,
     pub x: u32,
+}
+
+// The element counts of an operator's tensors; zeros but for number and line where the sheet or the layer is refused.
+#[repr(C)]
+pub struct LengthsAnswer {
+    pub number: u32,
+    pub line: u32,
+    pub input: usize,
+    pub kernel: usize,
+    pub output: usize,
+}
+
+// The part of a tensor that is a plane; zeros where it is refused.
+#[repr(C)]
+pub struct PlanePart {
+    pub start: usize,
+    pub length: usize,
 }
 
 // The peak of a plane; zeros but for number and place where the plane is refused.
@@ -176,6 +199,76 @@ pub extern "C" fn koza_shape(sheet: &[u8]) -> ShapeAnswer
     }
 }
 
+fn no_lengths(number: u32, line: u32) -> LengthsAnswer
+    ensures { λ r. ⌜ r ≡ noLengths number line ⌝ }
+{
+    LengthsAnswer {
+        number,
+        line,
+        input: 0,
+        kernel: 0,
+        output: 0,
+    }
+}
+
+// Pooling takes no kernel.
+fn kernel_length(op: Op, weights: usize) -> usize
+    ensures { λ r. ⌜ r ≡ kernelLength op weights ⌝ }
+{
+    match op {
+        Op::Convolution => weights,
+        Op::Transposed => weights,
+        Op::MaxPool => 0,
+    }
+}
+
+fn layer_lengths(layer: Layer) -> LengthsAnswer
+    ensures { λ r. ⌜ r ≡ lengthsIn (layer .op) (judged (layer .op) layer) ⌝ }
+{
+    let op = layer.op;
+    let judged = judge(op, layer);
+    match judged {
+        Judged::Refused(number) => no_lengths(number, 0),
+        Judged::Accepted(s) => LengthsAnswer {
+            number: 0,
+            line: 0,
+            input: s.inputs,
+            kernel: kernel_length(op, s.weights),
+            output: s.outputs,
+        },
+    }
+}
+
+#[no_mangle]
+pub extern "C" fn koza_lengths(sheet: &[u8]) -> LengthsAnswer
+    ensures { λ r. ⌜ r ≡ lengthsAnswer (readSheet (now (sheet .entry))) ⌝ }
+{
+    let read = read_sheet(sheet);
+    match read {
+        Read::Refused(number, line) => no_lengths(number, line),
+        Read::Sheet(layer) => layer_lengths(layer),
+    }
+}
+
+#[no_mangle]
+pub extern "C" fn koza_plane(
+    tensor: &[f32],
+    n: u32,
+    c: u32,
+    y: u32,
+    x: u32,
+    image: u32,
+    channel: u32,
+) -> PlanePart
+    ensures { λ r. ⌜ r ≡ planePart (partOf (length (now (tensor .entry))) n c y x image channel) ⌝ }
+{
+    let part = plane_part(tensor.len(), n, c, y, x, image, channel);
+    PlanePart {
+        start: part.start,
+        length: part.length,
+    }
+}
+
 #[no_mangle]
 pub extern "C" fn koza_peak(plane: &[f32], width: usize) -> PeakFound
     ensures { λ r. ⌜ r ≡ peakFound (peakOf (now (plane .entry)) width) ⌝ }
@@ -214,4 +307,12 @@ pub extern "C" fn koza_rewrite(sheet: &[u8], buffer: &mut [u8]) -> SheetWritten
             }
         }
     }
+}
+
+// The version of the library: 10,000 · major + 100 · minor + patch.
+#[no_mangle]
+pub extern "C" fn koza_version() -> u32
+    ensures { λ r. ⌜ r ≡ version ⌝ }
+{
+    10100
 }

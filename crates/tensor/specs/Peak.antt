@@ -1,4 +1,4 @@
--- The peak finder: "from a plane and its width, a peak record: value, row, column of the first largest element, compared as in a window and with its own bits."
+-- "Peak finder: from a plane and its width, a peak record: value, row, column of the first largest element, compared as in a window and with its own bits."
 use Prim.Native.Nat.{ℕ, _+_, _*_, _/_, _%_, _<_}
 use mathlib.Core.Path.{_≡_}
 use mathlib.Core.Bool.{Bool, not, _||_, cond}
@@ -25,6 +25,7 @@ abbrev pub wrongLength : ℕ → ℕ → Bool
 wrongLength len width = eqb width 0 || (eqb len 0 || not (eqb (len % width) 0))
 
 -- Place p of a plane is at row p / width and column p % width. Only an empty plane, which is refused before, has an empty window.
+-- "A tensor, place or line that a number doesn't use is 0."
 abbrev pub peakAt : ℕ → Window → PeakAnswer
 peakAt width Empty = noPeak 8 0
 peakAt width (Best v p) = record { number = 0; place = 0; peak = record { value = v; row = p / width; column = p % width } }

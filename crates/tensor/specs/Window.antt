@@ -13,7 +13,7 @@ abbrev pub pickWindow : Bool → Window → Window → Window
 pickWindow true a b = a
 pickWindow false a b = b
 
--- "The best is the largest; among equal ones, and +0 equals -0, the first .. , with its own bits."
+-- "The best is the largest; among equal ones, and +0 equals -0, the first .. with its own bits."
 -- A window after one more element: v at place p. `lt` is the < of f32.
 abbrev pub betterOf : Window → Float → ℕ → Window
 betterOf Empty v p = Best v p

@@ -2,13 +2,13 @@
 use layer::channels_ok;
 use layer::images_ok;
 use layer::size_ok;
-ghost use Prim.Native.Nat.{_+_, _*_, _/_, _%_};
+ghost use Prim.Native.Nat.{_+_, _*_, _/_, _%_, _≤_};
 ghost use mathlib.Core.Path.{_≡_};
 ghost use lib.ListN.{length};
 ghost use Rattle.tensor.specs.Places.{positionOf};
 ghost use Rattle.tensor.specs.Element.{elementOk, firstBad};
 ghost use Rattle.tensor.specs.Window.{betterOf, bestOf, upTo};
-ghost use Rattle.tensor.specs.Plane.{sizesOk, hasPlane, planeOf, partStart};
+ghost use Rattle.tensor.specs.Plane.{sizesOk, hasPlane, partOf, planeOf};
 ghost use Rattle.tensor.specs.Peak.{noPeak, wrongLength, peakAt, peakOf};
 
 // ---- places
@@ -128,7 +128,32 @@ fn has_plane(len: usize, n: u32, c: u32, y: u32, x: u32, image: u32, channel: u3
     (len == count) & ((image < n) & (channel < c))
 }
 
-// The plane of an image and a channel, as a part of the caller's own slice; its empty part where there is none.
+// A part of a slice: where it begins and how long it is, in elements.
+pub struct Part {
+    pub start: usize,
+    pub length: usize,
+}
+
+// The part of a tensor slice of len elements that is the plane of an image and a channel; its empty part where there is none.
+pub fn plane_part(len: usize, n: u32, c: u32, y: u32, x: u32, image: u32, channel: u32) -> Part
+    ensures { λ r. ⌜ r ≡ partOf len n c y x image channel ⌝ }
+    ensures { λ r. ⌜ r .start + r .length ≤ len ⌝ }
+{
+    if !has_plane(len, n, c, y, x, image, channel) {
+        return Part {
+            start: 0,
+            length: 0,
+        };
+    }
+    let size = y as usize * x as usize;
+    let start = (image as usize * c as usize + channel as usize) * size;
+    Part {
+        start,
+        length: size,
+    }
+}
+
+// The plane of an image and a channel, as that part of the caller's own slice.
 pub fn pick_plane(
     tensor: &[f32],
     n: u32,
@@ -140,15 +165,11 @@ pub fn pick_plane(
 ) -> &[f32]
     ensures contents { λ r. ⌜ now r ≡ planeOf (now (tensor .entry)) n c y x image channel ⌝ }
     ensures block { λ r. ⌜ r .ptr .0 ≡ tensor .entry .ptr .0 ⌝ }
-    ensures offset { λ r. ⌜ r .ptr .1 ≡ tensor .entry .ptr .1 + partStart (length (now (tensor .entry))) n c y x image channel * 4 ⌝ }
+    ensures offset { λ r. ⌜ r .ptr .1 ≡ tensor .entry .ptr .1 + partOf (length (now (tensor .entry))) n c y x image channel .start * 4 ⌝ }
 {
-    let len = tensor.len();
-    if !has_plane(len, n, c, y, x, image, channel) {
-        return &tensor[0..0];
-    }
-    let size = y as usize * x as usize;
-    let start = (image as usize * c as usize + channel as usize) * size;
-    let end = start + size;
+    let part = plane_part(tensor.len(), n, c, y, x, image, channel);
+    let start = part.start;
+    let end = start + part.length;
     &tensor[start..end]
 }
 
