@@ -7,6 +7,7 @@ use Rattle.layer.specs.declared.AutoPad.the-variants.{Explicit, SameUppe
 use Rattle.layer.specs.declared.Rounding.{Rounding}
 use Rattle.layer.specs.declared.Rounding.the-variants.{Floor, Ceil}
 
+-- "Three operators .. convolution, transposed convolution, max pooling": a test for each
 abbrev pub isPool : Op → Bool
 isPool Convolution = false
 isPool Transposed = false

@@ -9,7 +9,7 @@ use lib.Signed.{leZ, ltZ}
 abbrev pub within : ℕ → ℕ → ℕ → Bool
 within lo hi v = leb lo v && leb v hi
 
--- "N 1..16"
+-- "Limits: N 1..16"
 abbrev pub imagesOk : ℕ → Bool
 imagesOk n = within 1 16 n
 

@@ -44,7 +44,7 @@ pub record Computes (c : PoolCase) : Type 0 where
 abbrev whole : List ℤ → List Float
 whole zs = map (ofInt binary32) zs
 
--- "002 example 2: values 3,5,5,9,9; indices 2,3,3,5,5."
+-- "(B) 002 example 2: values 3,5,5,9,9; indices 2,3,3,5,5."
 abbrev pub example2 : PoolCase
 example2 =
     record {
@@ -55,7 +55,7 @@ example2 =
       indices = pos 2 ∷ pos 3 ∷ pos 3 ∷ pos 5 ∷ pos 5 ∷ [];
     }
 
--- "Pool in 2, k 1, s 3, ceil, pads 0: out 2, second window empty, 7." The outputs are left as they were.
+-- "(B) Pool in 2, k 1, s 3, ceil, pads 0: out 2, second window empty, 7." The outputs are left as they were.
 abbrev pub secondEmpty : PoolCase
 secondEmpty =
     record {

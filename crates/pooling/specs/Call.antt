@@ -45,7 +45,7 @@ pooledIndices input s m = tabulate (λ o. indexOf m (windowOf input s o)) (s .ou
 
 -- ---- the checks: the shape of an accepted call, or the answer
 
--- number 9: "an element above 2^40 in magnitude or NaN; tells the tensor (0 input ..) and the first place in it"
+-- number 9: "an element above 2^40 in magnitude or NaN; tells the tensor (0 input .. ) and the first place in it"
 abbrev pub elementsVerdict : Shape → Elements → Verdict
 elementsVerdict s Good = Valid s
 elementsVerdict s (Bad p) = Invalid (badElement 0 p)
@@ -63,12 +63,13 @@ abbrev pub judgedVerdict : Judged → List Float → ℕ → ℕ → Verdict
 judgedVerdict (Refused n) input values indices = Invalid (numbered n)
 judgedVerdict (Accepted s) input values indices = slicesVerdict s input values indices
 
--- "Checks go by number, lowest first." The outputs come in with their lengths alone.
+-- "Given exactly when (and none above it holds)", "Checks go by number, lowest first." The outputs come in with their lengths alone.
 unfoldable pub verdict : Layer → List Float → ℕ → ℕ → Verdict
 verdict layer input values indices = judgedVerdict (judged MaxPool layer) input values indices
 
 -- ---- the call
 
+-- number 0: "done; every output element written"
 abbrev pub answerOf : Verdict → Answer
 answerOf (Valid s) = numbered 0
 answerOf (Invalid a) = a

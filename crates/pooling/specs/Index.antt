@@ -9,11 +9,11 @@ use lib.ListN.{drop}
 use Rattle.layer.specs.Limits.{rank}
 use Rattle.shape.specs.declared.Shape.{Shape}
 
--- the input's R dimensions: [N, C, X] with one axis, [N, C, Y, X] with two
+-- the input's R dimensions: "Input [N, C, Y, X]"; "One axis means [N, C, X]"
 abbrev pub dimensions : ℕ → Shape → List ℕ
 dimensions axes s = cond (eqb axes 1) (s .n ∷ s .c ∷ s .x .input ∷ []) (s .n ∷ s .c ∷ s .y .input ∷ s .x .input ∷ [])
 
--- how many dimensions stand before `axis`; `negsuc m` is -(m + 1), so -1 is the last dimension
+-- how many dimensions stand before `axis`, "negative ones counting from the end"; `negsuc m` is -(m + 1), so -1 is the last dimension
 abbrev pub dimensionsBefore : ℕ → ℤ → ℕ
 dimensionsBefore r (pos a) = a
 dimensionsBefore r (negsuc m) = r - suc m

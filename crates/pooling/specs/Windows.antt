@@ -11,7 +11,7 @@ use Rattle.tensor.specs.Places.{flatPlace, positionOf}
 use Rattle.tensor.specs.Window.{bestOf}
 use Rattle.pooling.specs.Taps.{overTaps}
 
--- The places in the input of the elements of the window at output position o, "by ky then kx". Pooling keeps image and channel.
+-- The places in the input of the elements of the window at output position o, "by ky then kx"; "in each plane": pooling keeps image and channel.
 abbrev pub placesAt : Shape → Position → List ℕ
 placesAt s o =
     overTaps (s .y) (o .row)

@@ -1,4 +1,4 @@
--- What document 01's program prints: "judges the first 512 bytes of standard input as a sheet, makes checks 1 to 7 and prints `answer=0` and
+-- What document 01's program prints: "Program: judges the first 512 bytes of standard input as a sheet, makes checks 1 to 7 and prints `answer=0` and
 -- `output=1,2,2,2` (two lines, for the sheet above); else `answer=` with the number, and for 20 to 23 a second line `line=`."
 use Prim.Native.Nat.{ℕ, _+_}
 use mathlib.Core.List.{List, _++_}

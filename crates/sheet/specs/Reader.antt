@@ -73,7 +73,7 @@ axisLine op s at = unlessUsed (isPool op) isDefaultAxis (anyAxis s at)
 
 -- ---- the sheet
 
--- "first bad line, with its line number": a line's refusal, or what follows the line
+-- "Reader, first bad line, with its line number": a line's refusal, or what follows the line. "A refused read hands over the number and line and no record"
 unfoldable pub after : {A : Type 0} → ℕ → Parsed A → (A → ℕ → Read) → Read
 after number (bad k) next = Refused k number
 after number (got v at) next = next v at
@@ -82,7 +82,7 @@ after number (got v at) next = next v at
 unfoldable pub ended : ℕ → List ℕ → ℕ → Layer → Read
 ended number s at l = cond (eqb at (length s)) (Sheet l) (Refused 20 number)
 
--- lines 7 to 12, for a layer of which lines 1 to 6 are read
+-- lines 7 to 12, for a layer of which lines 1 to 6 are read: "auto_pad=explicit pads_begin=0,0 pads_end=0,0 output_padding=0,0 rounding=floor axis=2"
 unfoldable pub readPads : Layer → List ℕ → ℕ → Read
 readPads l s at₆ =
     after 7 (autoPadLine s at₆) λ mode at₇.
@@ -93,6 +93,7 @@ readPads l s at₆ =
     after 12 (axisLine (l .op) s at₁₁) λ axis at₁₂.
     ended 13 s at₁₂ (paddedLayer l mode begin end padding rounding axis)
 
+-- "The whole of one sheet:" "op=maxpool axes=2 input=1,2,3,3 kernel=2,2 strides=1,1 dilations=1,1" and then lines 7 to 12
 unfoldable pub readSheet : List ℕ → Read
 readSheet s =
     after 1 (opLine s 0) λ op at₁.
@@ -103,7 +104,8 @@ readSheet s =
     after 6 (listLine (text "dilations=") axes s at₅) λ dilations at₆.
     readPads (sizedLayer op axes input kernel strides dilations) s at₆
 
--- ---- what the answers of the inner functions say
+-- ---- what the answers of the inner functions say: "When an answer is an enum, the promises use a definition that gives this paper's number and values for
+-- each case."
 
 abbrev pub opParsed : OpLine → Parsed Op
 opParsed (OpAt v next) = got v next

@@ -37,6 +37,7 @@ showPads l =
     ++ (showLine (text "rounding=") (showRounding (l .rounding))
     ++ showLine (text "axis=") (showAxis (l .axis))))))
 
+-- "Twelve key=value lines in this order, each ended by one byte 10, nothing after."
 unfoldable pub showSheet : Layer → List ℕ
 showSheet l =
     showLine (text "op=") (showOp (l .op))
@@ -108,6 +109,7 @@ faultOf l = first (faults l)
 
 -- ---- the answer and the buffer
 
+-- number 0: "A tensor, place or line that a number doesn't use is 0."
 abbrev pub written : ℕ → Written
 written n = record { number = 0; line = 0; length = n }
 
@@ -124,7 +126,8 @@ answer Fine l room = cond (leb (length (showSheet l)) room) (written (length (sh
 unfoldable pub writeSheet : Layer → ℕ → Written
 writeSheet l room = answer (faultOf l) l room
 
--- "Otherwise it writes from the start, tells the sheet's length and touches nothing beyond." A refused write changes nothing.
+-- "Otherwise it writes from the start, tells the sheet's length and touches nothing beyond." A refused write: "Any number but 0 leaves all lent
+-- memory at its entry contents."
 unfoldable pub leave : Fault → Layer → List ℕ → List ℕ
 leave (At number line) l buffer = buffer
 leave Fine l buffer = cond (leb (length (showSheet l)) (length buffer)) (showSheet l ++ drop (length (showSheet l)) buffer) buffer

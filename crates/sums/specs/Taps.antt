@@ -39,7 +39,8 @@ sumFrom start taps (suc n) = addTap (sumFrom start taps n) (taps n)
 abbrev pub tapsOf : (ℕ → ℕ → Place) → List Float → List Float → ℕ → ℕ → Tap
 tapsOf place input kernel j t = tapAt input kernel (place j t)
 
--- "output (n, group g, o, y, x) starts at +0 and adds input·weight for each tap": output j, of k taps. "Positions no tap reaches are +0."
+-- "output (n, group g, o, y, x) starts at +0 and adds input·weight for each tap"; transposed: "output (n, g, o, y, x) starts at +0 and adds", "Positions no tap
+-- reaches are +0.": output j, of k taps
 unfoldable pub outputOf : (ℕ → ℕ → Place) → ℕ → List Float → List Float → ℕ → Float
 outputOf place k input kernel j = sumFrom plusZero (tapsOf place input kernel j) k
 

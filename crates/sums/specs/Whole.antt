@@ -11,7 +11,7 @@ use lib.Ieee.{Float, nan, inf, fin, up, down}
 use Rattle.tensor.specs.Table.{read}
 use Rattle.sums.specs.Taps.{Tap, none, pair}
 
--- "an element is a whole number if its value is one, -0 being 0": `fin s m e` is the number ± m · 2^e, and 2^e is up e / down e.
+-- "and an element is a whole number if its value is one, -0 being 0": `fin s m e` is the number ± m · 2^e, and 2^e is up e / down e.
 unfoldable pub isWhole : Float → Bool
 isWhole nan = false
 isWhole (inf s) = false
