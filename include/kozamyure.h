@@ -150,7 +150,8 @@ koza_written koza_rewrite(const uint8_t *sheet, size_t sheet_len, uint8_t *buffe
 /* ---- planes */
 
 /* The plane of an image and a channel of the tensor [N, C, Y, X]: `length` elements from tensor + `start` on. It is refused where a size is outside its limit,
- * tensor_len is not N*C*Y*X, or image or channel is not below its count. No element is looked at. */
+ * tensor_len is not N*C*Y*X, or image or channel is not below its count; so also for an output that has more than 1,024 channels or 4,096 rows or columns. No
+ * element is looked at. */
 koza_part koza_plane(const float *tensor, size_t tensor_len, uint32_t n, uint32_t c, uint32_t y, uint32_t x, uint32_t image, uint32_t channel);
 
 /* The first largest element of a plane with rows of `width` elements. 8: width 0, no element, or a length that is no multiple of the width. 9: a bad element,

@@ -1,4 +1,4 @@
-//! Links the static library that `rt staticlib kozamyure` wrote (KOZAMYURE_LIB names its folder where it is another), and the benchmark's baselines in C.
+//! Compiles and links the benchmark's baselines in C. The static library comes with the bindings.
 use std::process::Command;
 
 /// The function's name and the options of each baseline. No option lets a product and a sum round once together.
@@ -27,11 +27,5 @@ fn baselines(folder: &str) {
 }
 
 fn main() {
-    let folder = std::env::var("KOZAMYURE_LIB")
-        .unwrap_or_else(|_| format!("{}/../../target/staticlib", env!("CARGO_MANIFEST_DIR")));
-    println!("cargo:rustc-link-search=native={folder}");
-    println!("cargo:rustc-link-lib=static=kozamyure");
-    println!("cargo:rerun-if-changed={folder}/libkozamyure.a");
-    println!("cargo:rerun-if-env-changed=KOZAMYURE_LIB");
     baselines(&std::env::var("OUT_DIR").expect("cargo sets OUT_DIR"));
 }

@@ -1,108 +1,41 @@
 //! Finds the mark in a small picture: a convolution brings it out, max pooling says where it is, a transposed convolution spreads the map back.
 //! usage: marks CONVOLUTION.sheet MAXPOOL.sheet TRANSPOSED.sheet
+use kozamyure::{Error, Lengths, Peak, Shape};
 use std::process::exit;
 
-#[repr(C)]
-struct Answer {
-    number: u32,
-    line: u32,
-    tensor: u32,
-    place: usize,
-}
-
-#[repr(C)]
-struct Shape {
-    number: u32,
-    line: u32,
-    axes: u32,
-    n: u32,
-    c: u32,
-    y: u32,
-    x: u32,
-}
-
-#[repr(C)]
-struct Peak {
-    number: u32,
-    place: usize,
-    value: f32,
-    row: usize,
-    column: usize,
-}
-
-extern "C" {
-    fn koza_shape(sheet: *const u8, sheet_len: usize) -> Shape;
-    fn koza_convolution(
-        sheet: *const u8, sheet_len: usize, input: *const f32, input_len: usize, kernel: *const f32, kernel_len: usize, output: *mut f32, output_len: usize,
-    ) -> Answer;
-    fn koza_transposed(
-        sheet: *const u8, sheet_len: usize, input: *const f32, input_len: usize, kernel: *const f32, kernel_len: usize, output: *mut f32, output_len: usize,
-    ) -> Answer;
-    fn koza_maxpool(
-        sheet: *const u8, sheet_len: usize, input: *const f32, input_len: usize, values: *mut f32, values_len: usize, indices: *mut i64, indices_len: usize,
-    ) -> Answer;
-    fn koza_peak(plane: *const f32, plane_len: usize, width: usize) -> Peak;
-}
-
-/// A sheet with the sizes of its output. The library asks nothing of its caller, so every call below is safe for any slices.
+/// A sheet that was accepted, with the lengths of its buffers and the sizes of its output.
 struct Layer {
-    text: Vec<u8>,
-    outputs: usize,
-    width: usize,
+    sheet: Vec<u8>,
+    lengths: Lengths,
+    shape: Shape,
 }
 
 impl Layer {
     fn open(path: &str) -> Layer {
-        let text = std::fs::read(path).unwrap_or_else(|e| {
+        let sheet = std::fs::read(path).unwrap_or_else(|e| {
             eprintln!("marks: cannot read {path}: {e}");
             exit(2)
         });
-        let s = unsafe { koza_shape(text.as_ptr(), text.len()) };
-        if s.number != 0 {
-            eprintln!("marks: {path} is refused with number {}, line {}", s.number, s.line);
-            exit(1);
-        }
-        assert!(s.axes == 1 || s.axes == 2);
-        Layer { text, outputs: s.n as usize * s.c as usize * s.y as usize * s.x as usize, width: s.x as usize }
+        let lengths = done(path, kozamyure::lengths(&sheet));
+        let shape = done(path, kozamyure::shape(&sheet));
+        Layer { sheet, lengths, shape }
     }
 
-    fn sums(&self, transposed: bool, input: &[f32], kernel: &[f32]) -> Result<Vec<f32>, Answer> {
-        let mut output = vec![0.0; self.outputs];
-        let call = if transposed { koza_transposed } else { koza_convolution };
-        let a = unsafe {
-            call(
-                self.text.as_ptr(), self.text.len(), input.as_ptr(), input.len(), kernel.as_ptr(), kernel.len(), output.as_mut_ptr(), output.len(),
-            )
-        };
-        if a.number == 0 { Ok(output) } else { Err(a) }
-    }
-
-    fn pool(&self, input: &[f32]) -> Result<(Vec<f32>, Vec<i64>), Answer> {
-        let (mut values, mut indices) = (vec![0.0; self.outputs], vec![0; self.outputs]);
-        let a = unsafe {
-            koza_maxpool(
-                self.text.as_ptr(), self.text.len(), input.as_ptr(), input.len(), values.as_mut_ptr(), values.len(), indices.as_mut_ptr(), indices.len(),
-            )
-        };
-        if a.number == 0 { Ok((values, indices)) } else { Err(a) }
+    /// Prints where the first plane of the layer's output has its largest element.
+    fn peak(&self, name: &str, output: &[f32]) -> Peak {
+        let plane = kozamyure::plane(output, self.shape.sizes(), 0, 0);
+        let peak = done(name, kozamyure::peak(plane, self.shape.x as usize));
+        println!("{name}: peak {} at row {}, column {}", peak.value, peak.row, peak.column);
+        peak
     }
 }
 
-fn done<T>(name: &str, result: Result<T, Answer>) -> T {
-    result.unwrap_or_else(|a| {
-        eprintln!("marks: {name} answers {} (line {}, tensor {}, place {})", a.number, a.line, a.tensor, a.place);
+/// What a call gives. A refusal is told, with its number, meaning and place, and ends the program.
+fn done<T>(name: &str, result: Result<T, Error>) -> T {
+    result.unwrap_or_else(|e| {
+        eprintln!("marks: {name} is refused with {e}");
         exit(1)
     })
-}
-
-fn peak(name: &str, plane: &[f32], width: usize) -> Peak {
-    let p = unsafe { koza_peak(plane.as_ptr(), plane.len(), width) };
-    if p.number != 0 {
-        eprintln!("marks: the peak of {name} is refused with number {} at {}", p.number, p.place);
-        exit(1);
-    }
-    println!("{name}: peak {} at row {}, column {}", p.value, p.row, p.column);
-    p
 }
 
 fn main() {
@@ -122,16 +55,21 @@ fn main() {
     let cross = [-1.0, 2.0, -1.0, 2.0, 3.0, 2.0, -1.0, 2.0, -1.0];
     let spread = [1.0; 4];
 
-    let marks = done("convolution", conv.sums(false, &picture, &cross));
-    peak("convolution", &marks, conv.width);
-    let (values, indices) = done("maxpool", pool.pool(&marks));
-    let best = peak("maxpool", &values, pool.width);
-    let place = indices[best.row * pool.width + best.column] as usize;
+    let mut marks = vec![0.0; conv.lengths.output];
+    done("convolution", kozamyure::convolution(&conv.sheet, &picture, &cross, &mut marks));
+    conv.peak("convolution", &marks);
+
+    let (mut values, mut indices) = (vec![0.0; pool.lengths.output], vec![0; pool.lengths.output]);
+    done("maxpool", kozamyure::maxpool(&pool.sheet, &marks, &mut values, &mut indices));
+    let best = pool.peak("maxpool", &values);
+    let place = indices[best.row * pool.shape.x as usize + best.column] as usize;
     println!("the mark is at row {}, column {}", place / WIDTH, place % WIDTH);
-    let map = done("transposed", trans.sums(true, &values, &spread));
-    peak("transposed", &map, trans.width);
+
+    let mut map = vec![0.0; trans.lengths.output];
+    done("transposed", kozamyure::transposed(&trans.sheet, &values, &spread, &mut map));
+    trans.peak("transposed", &map);
 
     // A call that is refused changes nothing: one element too few.
-    let refused = conv.sums(false, &picture[1..], &cross).err().map_or(0, |a| a.number);
-    println!("one element too few: number {refused}");
+    let refused = kozamyure::convolution(&conv.sheet, &picture[1..], &cross, &mut marks);
+    println!("one element too few: number {}", refused.err().map_or(0, |e| e.number));
 }

@@ -9,7 +9,7 @@ impl Random {
         Random(seed.wrapping_mul(0x9E37_79B9_7F4A_7C15) | 1)
     }
 
-    pub fn next(&mut self) -> u64 {
+    pub fn draw(&mut self) -> u64 {
         self.0 ^= self.0 << 13;
         self.0 ^= self.0 >> 7;
         self.0 ^= self.0 << 17;
@@ -18,15 +18,15 @@ impl Random {
 
     /// A number from lo to hi.
     pub fn range(&mut self, lo: u64, hi: u64) -> u64 {
-        lo + self.next() % (hi - lo + 1)
+        lo + self.draw() % (hi - lo + 1)
     }
 
     pub fn chance(&mut self, one_in: u64) -> bool {
-        self.next() % one_in == 0
+        self.draw() % one_in == 0
     }
 
     pub fn pick<T: Copy>(&mut self, from: &[T]) -> T {
-        from[(self.next() % from.len() as u64) as usize]
+        from[(self.draw() % from.len() as u64) as usize]
     }
 }
 
@@ -194,7 +194,7 @@ pub fn sheet(r: &mut Random, l: &Layer) -> Vec<u8> {
         }
         2 => {
             let at = r.range(0, text.len() as u64) as usize;
-            text.insert(at, r.pick(&[b'0', b'1', b',', b'\n', b' ', b'\r']));
+            text.insert(at, r.pick(b"01,\n \r"));
         }
         3 => text.truncate(r.range(0, text.len() as u64 - 1) as usize),
         4 => text.extend_from_slice(r.pick(&[&b"\n"[..], b"x", b"axis=0\n", b" "])),
@@ -279,7 +279,7 @@ fn element(r: &mut Random, kind: Kind) -> f32 {
             7 => f32::MIN_POSITIVE,
             8 => r.range(0, 3) as f32 - 1.0,
             _ => {
-                let v = f32::from_bits((r.next() & 0xFFFF_FFFF) as u32);
+                let v = f32::from_bits((r.draw() & 0xFFFF_FFFF) as u32);
                 if v.is_nan() || v.abs() > LIMIT { 0.5 } else { v }
             }
         },
@@ -308,4 +308,59 @@ pub fn length(r: &mut Random, len: u64) -> usize {
         return len;
     }
     r.pick(&[len + 1, len.saturating_sub(1), 0, 2 * len])
+}
+
+/// What the plane picker is given: the tensor's length, its four sizes, an image and a channel.
+#[derive(Clone, Copy, Debug)]
+pub struct Pick {
+    pub len: usize,
+    pub sizes: [u32; 4],
+    pub image: u32,
+    pub channel: u32,
+}
+
+/// The longest tensor that a plane is picked from: two sizes at their limits, and one element too many.
+const LONGEST: u128 = 16_777_217;
+
+/// N, C, Y and X: small, or two of them at their limits, or outside, or with a product of 2^32 or 2^32 + 16,384.
+fn plane_sizes(r: &mut Random) -> [u32; 4] {
+    const LIMITS: [u32; 4] = [16, 1024, 4096, 4096];
+    let mut sizes = [3, 4, 6, 6].map(|most| r.range(1, most) as u32);
+    match r.range(0, 11) {
+        0 => sizes = r.pick(&[[16, 1024, 4096, 64], [16, 1024, 481, 545]]),
+        1 | 2 => {
+            sizes = [1; 4];
+            for at in [r.range(0, 3) as usize, r.range(0, 3) as usize] {
+                sizes[at] = LIMITS[at] - r.range(0, 1) as u32;
+            }
+        }
+        3..=5 => {
+            for _ in 0..r.range(1, 2) {
+                let at = r.range(0, 3) as usize;
+                sizes[at] = r.pick(&[0, LIMITS[at] + 1, LIMITS[at] + 1, 65_536, 1 << 31, u32::MAX]);
+            }
+        }
+        _ => {}
+    }
+    sizes
+}
+
+/// A position below the count, seldom at it or above.
+fn position(r: &mut Random, count: u32) -> u32 {
+    if count == 0 || r.chance(12) {
+        return r.pick(&[count, count, count.saturating_add(1), u32::MAX]);
+    }
+    r.range(0, u64::from(count) - 1) as u32
+}
+
+pub fn pick(r: &mut Random) -> Pick {
+    let sizes = plane_sizes(r);
+    let count = sizes.iter().fold(1u128, |p, s| p * u128::from(*s));
+    // A product that is too long to lend is lent as 32 bits would have it.
+    let lent = if count < LONGEST { count } else { count % (1 << 32) };
+    let mut len = if lent < LONGEST { lent as usize } else { 0 };
+    if r.chance(8) {
+        len = r.pick(&[len + 1, len + 1, len.saturating_sub(1), len.saturating_sub(1), len / 2, 0]);
+    }
+    Pick { len, sizes, image: position(r, sizes[0]), channel: position(r, sizes[1]) }
 }

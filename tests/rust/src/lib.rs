@@ -1,6 +1,6 @@
-//! Tests of the static library from outside: its C declarations, an independent implementation of document 01 in plain Rust, a generator of calls, and the
-//! benchmark's baselines.
+//! Tests of the static library from outside, by way of the bindings: an independent implementation of document 01 in plain Rust, a generator of calls, the
+//! benchmark's baselines and its chart.
 pub mod baseline;
-pub mod boundary;
+pub mod chart;
 pub mod generate;
 pub mod reference;

@@ -1,4 +1,5 @@
-//! Document 01 in plain Rust, written from the document alone: the sheet, checks 1 to 9, sums and windows. Clear rather than fast.
+//! Document 01 in plain Rust, written from the document alone: the sheet, checks 1 to 9, sums and windows, planes and peaks. Clear rather than fast.
+use std::ops::Range;
 
 #[derive(Clone, Copy, Debug, PartialEq, Eq)]
 pub enum Op {
@@ -518,6 +519,22 @@ pub fn max_pool(l: &Layer, input: &[f32], values: usize, indices: usize) -> Resu
         }
     }
     Ok((best, places))
+}
+
+// ---- the plane picker
+
+/// Where the plane of an image and a channel lies in a tensor of `len` elements, or nothing where it is refused.
+pub fn pick_plane(len: usize, sizes: [u32; 4], image: u32, channel: u32) -> Option<Range<usize>> {
+    let [n, c, y, x] = sizes.map(u64::from);
+    let (image, channel) = (u64::from(image), u64::from(channel));
+    let within = (1..=16).contains(&n) && (1..=1024).contains(&c) && (1..=4096).contains(&y) && (1..=4096).contains(&x);
+    if !within || product(&[n, c, y, x]) != len as u128 || image >= n || channel >= c {
+        return None;
+    }
+    // All channels of the images before it come first, then the channels before it.
+    let plane = (y * x) as usize;
+    let before = (image * c + channel) as usize * plane;
+    Some(before..before + plane)
 }
 
 // ---- the peak finder

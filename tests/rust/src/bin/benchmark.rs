@@ -1,11 +1,13 @@
 //! Times each operator of the static library beside baselines on the same inputs: the same loops in plain Rust, in C at -O2 and at -O3, and the limit, which
 //! is C at -O3 tap by tap over whole rows of outputs. All sum in the same order; outputs are compared bit for bit. Prints the best runs, the ratio of the
-//! library's time to plain Rust's, and the share of the limit's speed that the library reaches.
+//! library's time to plain Rust's, and the share of the limit's speed that the library reaches. With a path it also writes the ratios as a bar chart.
+//! usage: benchmark [CHART.svg]
 use kozamyure_tests::baseline::{c_o2, c_o3, c_rows, plain_rust, Call, Outputs};
-use kozamyure_tests::boundary;
+use kozamyure_tests::chart::{chart, Row};
 use kozamyure_tests::generate::Random;
 use kozamyure_tests::reference::Op::{self, Convolution, MaxPool, Transposed};
 use kozamyure_tests::reference::{judge, show_sheet, AutoPad, Axis, Layer, UNUSED};
+use std::process::ExitCode;
 use std::time::{Duration, Instant};
 
 /// Operator; channels, Y, X, output channels, kernel, stride, dilation, pads; a note.
@@ -14,6 +16,7 @@ type Case = (Op, [u64; 8], &'static str);
 const CASES: &[Case] = &[
     (Convolution, [3, 224, 224, 64, 5, 1, 1, 2], " (000's example 2)"),
     (Convolution, [1, 480, 640, 1, 5, 1, 1, 2], " (a camera picture)"),
+    (Convolution, [1, 480, 640, 8, 5, 1, 1, 2], " (a camera picture, 8 output channels)"),
     (Convolution, [1, 64, 64, 8, 3, 1, 1, 1], ""),
     (Convolution, [16, 64, 64, 8, 3, 1, 1, 1], ""),
     (Convolution, [16, 64, 64, 8, 5, 1, 1, 2], ""),
@@ -123,11 +126,11 @@ fn call(case: &Case) -> Call {
 
 fn library(call: &Call, out: &mut Outputs) {
     let answer = match call.layer.op {
-        Convolution => boundary::convolution(&call.sheet, &call.input, &call.kernel, &mut out.values),
-        Transposed => boundary::transposed(&call.sheet, &call.input, &call.kernel, &mut out.values),
-        MaxPool => boundary::maxpool(&call.sheet, &call.input, &mut out.values, &mut out.indices),
+        Convolution => kozamyure::convolution(&call.sheet, &call.input, &call.kernel, &mut out.values),
+        Transposed => kozamyure::transposed(&call.sheet, &call.input, &call.kernel, &mut out.values),
+        MaxPool => kozamyure::maxpool(&call.sheet, &call.input, &mut out.values, &mut out.indices),
     };
-    assert_eq!(answer.number, 0);
+    assert_eq!(answer, Ok(()));
 }
 
 /// At least seven runs each, and more where they are short. They take turns, so that a slow moment of the machine hits all alike. Outputs are spoiled before
@@ -180,7 +183,8 @@ fn worst<'a>(what: &str, measured: impl Iterator<Item = &'a Measured> + Clone) {
     }
 }
 
-fn main() {
+/// Measures all calls and prints the table and the worst of each operator.
+fn run() -> Vec<Measured> {
     let times = RUNS.map(|(what, _)| format!("{what}, ms")).join(" | ");
     println!("| call | taps | outputs | {times} | library / plain Rust | limit / library |");
     println!("|---|---|---|---|---|---|---|---|---|---|");
@@ -194,4 +198,21 @@ fn main() {
     for (op, what) in [(Convolution, "convolution"), (Transposed, "transposed"), (MaxPool, "maxpool")] {
         worst(what, measured.iter().filter(|m| m.call.layer.op == op));
     }
+    measured
+}
+
+fn main() -> ExitCode {
+    let paths: Vec<String> = std::env::args().skip(1).collect();
+    if paths.len() > 1 {
+        eprintln!("usage: benchmark [CHART.svg]");
+        return ExitCode::from(2);
+    }
+    let rows: Vec<Row> = run().iter().map(|m| Row { name: m.name.clone(), ratio: m.ratio(), operator: m.call.layer.op }).collect();
+    for path in paths {
+        if let Err(e) = std::fs::write(&path, chart(&rows)) {
+            eprintln!("benchmark: cannot write {path}: {e}");
+            return ExitCode::FAILURE;
+        }
+    }
+    ExitCode::SUCCESS
 }

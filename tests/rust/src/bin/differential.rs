@@ -1,6 +1,6 @@
 //! Compares the static library with the reference on generated calls, bit for bit, buffers of refused calls included.
 //! usage: differential [CALLS] [SEED]      (100,000 calls and seed 1 by default)
-use kozamyure_tests::boundary;
+use kozamyure::answers::{self, Answer, LengthsAnswer, Part, ShapeAnswer, Written};
 use kozamyure_tests::generate::{self, Kind, Random};
 use kozamyure_tests::reference::{self, Layer, Op, Refusal, Shape, Sum};
 use std::collections::{BTreeMap, BTreeSet};
@@ -24,6 +24,8 @@ struct Counts {
     rows: [BTreeSet<[u64; 3]>; 2],
     peaks: u64,
     rewritten: u64,
+    planes_given: u64,
+    planes_refused: u64,
     failures: u64,
 }
 
@@ -48,41 +50,58 @@ fn bits(v: &[f32]) -> Vec<u32> {
     v.iter().map(|x| x.to_bits()).collect()
 }
 
-fn answer_of(r: Refusal) -> boundary::Answer {
-    boundary::Answer { number: r.number, line: r.line, tensor: r.tensor, place: r.place }
+fn answer_of(r: Refusal) -> Answer {
+    Answer { number: r.number, line: r.line, tensor: r.tensor, place: r.place }
 }
 
 const DONE: Refusal = Refusal { number: 0, line: 0, tensor: 0, place: 0 };
 
+/// A sheet's layer and its shape, by checks 1 to 7 of its own operator.
+type Judged = Result<(Layer, Shape), Refusal>;
+
 /// The shape call: sizes of the output, or the refusal.
-fn check_shape(counts: &mut Counts, sheet: &[u8], read: &Result<Layer, Refusal>) {
-    let judged = read.and_then(|l| reference::judge(l.op, &l).map(|s| (l, s)));
+fn check_shape(counts: &mut Counts, sheet: &[u8], judged: &Judged) {
     let expected = match judged {
-        Ok((l, s)) => boundary::ShapeAnswer {
+        Ok((l, s)) => ShapeAnswer {
             number: 0, line: 0, axes: l.axes as u32, n: l.n as u32, c: s.channels as u32, y: s.y.out as u32, x: s.x.out as u32,
         },
-        Err(r) => boundary::ShapeAnswer { number: r.number, line: r.line, axes: 0, n: 0, c: 0, y: 0, x: 0 },
+        Err(r) => ShapeAnswer { number: r.number, line: r.line, axes: 0, n: 0, c: 0, y: 0, x: 0 },
     };
-    let got = boundary::shape(sheet);
+    let got = answers::shape(sheet);
     if got != expected {
         counts.fail("shape", sheet, format!("{got:?}, expected {expected:?}"));
+    }
+}
+
+/// The lengths call: elements of input, kernel and output, or the refusal.
+fn check_lengths(counts: &mut Counts, sheet: &[u8], judged: &Judged) {
+    let expected = match judged {
+        Ok((l, s)) => {
+            let kernel = if l.op == Op::MaxPool { 0 } else { s.weights as usize };
+            LengthsAnswer { number: 0, line: 0, input: s.inputs as usize, kernel, output: s.outputs as usize }
+        }
+        Err(r) => LengthsAnswer { number: r.number, line: r.line, input: 0, kernel: 0, output: 0 },
+    };
+    let got = answers::lengths(sheet);
+    if got != expected {
+        counts.fail("lengths", sheet, format!("{got:?}, expected {expected:?}"));
     }
 }
 
 /// The sheet written back: the same bytes for every sheet that is read, and a short buffer left alone.
 fn check_rewrite(r: &mut Random, counts: &mut Counts, sheet: &[u8], read: &Result<Layer, Refusal>) {
     let room = if r.chance(4) { r.range(0, sheet.len() as u64 + 3) as usize } else { sheet.len() + r.range(0, 4) as usize };
-    let before: Vec<u8> = (0..room).map(|_| r.next() as u8).collect();
+    let before: Vec<u8> = (0..room).map(|_| r.draw() as u8).collect();
     let mut buffer = before.clone();
-    let got = boundary::rewrite(sheet, &mut buffer);
+    let got = answers::rewrite(sheet, &mut buffer);
     let mut after = before;
     let expected = match read {
-        Err(e) => boundary::Written { number: e.number, line: e.line, length: 0 },
-        Ok(_) if room < sheet.len() => boundary::Written { number: 24, line: 0, length: 0 },
+        Err(e) => Written { number: e.number, line: e.line, length: 0 },
+        Ok(_) if room < sheet.len() => Written { number: 24, line: 0, length: 0 },
         Ok(_) => {
             after[..sheet.len()].copy_from_slice(sheet);
             counts.rewritten += 1;
-            boundary::Written { number: 0, line: 0, length: sheet.len() }
+            Written { number: 0, line: 0, length: sheet.len() }
         }
     };
     if got != expected || buffer != after {
@@ -115,12 +134,12 @@ struct Call<'a> {
 }
 
 fn check_convolution(r: &mut Random, counts: &mut Counts, op: Op, call: &Call) -> u32 {
-    let before: Vec<f32> = (0..call.outputs).map(|_| f32::from_bits(r.next() as u32)).collect();
+    let before: Vec<f32> = (0..call.outputs).map(|_| f32::from_bits(r.draw() as u32)).collect();
     let mut output = before.clone();
     let got = if op == Op::Convolution {
-        boundary::convolution(call.sheet, &call.input, &call.kernel, &mut output)
+        answers::convolution(call.sheet, &call.input, &call.kernel, &mut output)
     } else {
-        boundary::transposed(call.sheet, &call.input, &call.kernel, &mut output)
+        answers::transposed(call.sheet, &call.input, &call.kernel, &mut output)
     };
     let result = match call.layer {
         None => Err(call.read.expect("a sheet is read or refused")),
@@ -144,10 +163,10 @@ fn check_convolution(r: &mut Random, counts: &mut Counts, op: Op, call: &Call) -
 }
 
 fn check_maxpool(r: &mut Random, counts: &mut Counts, call: &Call, indices: usize) -> u32 {
-    let before: Vec<f32> = (0..call.outputs).map(|_| f32::from_bits(r.next() as u32)).collect();
-    let places: Vec<i64> = (0..indices).map(|_| r.next() as i64).collect();
+    let before: Vec<f32> = (0..call.outputs).map(|_| f32::from_bits(r.draw() as u32)).collect();
+    let places: Vec<i64> = (0..indices).map(|_| r.draw() as i64).collect();
     let (mut values, mut found) = (before.clone(), places.clone());
-    let got = boundary::maxpool(call.sheet, &call.input, &mut values, &mut found);
+    let got = answers::maxpool(call.sheet, &call.input, &mut values, &mut found);
     let result = match call.layer {
         None => Err(call.read.expect("a sheet is read or refused")),
         Some(l) => reference::max_pool(l, &call.input, call.outputs, indices),
@@ -168,7 +187,7 @@ fn check_peak(r: &mut Random, counts: &mut Counts) {
     let (width, height) = (r.range(0, 6) as usize, r.range(0, 6) as usize);
     let len = generate::length(r, (width * height) as u64);
     let plane = generate::tensor(r, kind, len);
-    let got = boundary::peak(&plane, width);
+    let got = answers::peak(&plane, width);
     let expected = match reference::find_peak(&plane, width) {
         Ok((v, row, column)) => (0, 0, v.to_bits(), row, column),
         Err(e) => (e.number, e.place, 0, 0, 0),
@@ -176,6 +195,27 @@ fn check_peak(r: &mut Random, counts: &mut Counts) {
     counts.peaks += 1;
     if (got.number, got.place, got.value.to_bits(), got.row, got.column) != expected {
         counts.fail("peak", b"", format!("{got:?} of {plane:?} with width {width}"));
+    }
+}
+
+/// The plane picker: the part that it tells, and the slice that the bindings give. No element is looked at, so zeros do.
+fn check_plane(r: &mut Random, counts: &mut Counts) {
+    let pick = generate::pick(r);
+    let tensor = vec![0.0; pick.len];
+    let found = reference::pick_plane(pick.len, pick.sizes, pick.image, pick.channel);
+    if found.is_some() {
+        counts.planes_given += 1;
+    } else {
+        counts.planes_refused += 1;
+    }
+    // A refusal is the empty part at the start of the tensor.
+    let expected = found.clone().and_then(|p| tensor.get(p)).unwrap_or(&tensor[..0]);
+    let part = found.map_or(Part { start: 0, length: 0 }, |p| Part { start: p.start, length: p.len() });
+    let got = answers::plane(&tensor, pick.sizes, pick.image, pick.channel);
+    let plane = kozamyure::plane(&tensor, pick.sizes, pick.image, pick.channel);
+    if got != part || !std::ptr::eq(plane, expected) {
+        let slices = format!("a slice of {} at {:p} in a tensor at {:p}", plane.len(), plane.as_ptr(), tensor.as_ptr());
+        counts.fail("plane", b"", format!("{got:?} and {slices}, expected {part:?} for {pick:?}"));
     }
 }
 
@@ -189,27 +229,37 @@ fn one_call(r: &mut Random, counts: &mut Counts) {
     }
     let sheet = generate::sheet(r, &layer);
     let read = reference::read_sheet(&sheet);
-    check_shape(counts, &sheet, &read);
+    let judged = read.and_then(|l| reference::judge(l.op, &l).map(|s| (l, s)));
+    check_shape(counts, &sheet, &judged);
+    check_lengths(counts, &sheet, &judged);
     if r.chance(8) {
         check_rewrite(r, counts, &sheet, &read);
     }
     if r.chance(8) {
         check_peak(r, counts);
     }
+    if r.chance(8) {
+        check_plane(r, counts);
+    }
     // The operator of the sheet, seldom another.
     let own = read.map_or(layer.op, |l| l.op);
+    call_operator(r, counts, &sheet, &read, own);
+}
+
+/// A call of an operator with the sheet, unless its tensors are too large to compute often.
+fn call_operator(r: &mut Random, counts: &mut Counts, sheet: &[u8], read: &Result<Layer, Refusal>, own: Op) {
     let op = if r.chance(30) { r.pick(&[Op::Convolution, Op::Transposed, Op::MaxPool]) } else { own };
     let shape = read.ok().and_then(|l| reference::judge(op, &l).ok());
     let (inputs, weights, outputs) = shape.map_or((3, 2, 4), |s| (s.inputs, s.weights, s.outputs));
     if inputs > 40_000 || weights > 40_000 || outputs * shape.map_or(1, |s| s.taps) > 400_000 {
-        // Too large to compute often: the shape call has checked it.
+        // The calls for shape and lengths have checked it.
         return;
     }
     let kind = generate::kind(r);
     let input_len = generate::length(r, inputs);
     let kernel_len = generate::length(r, weights);
     let call = Call {
-        sheet: &sheet,
+        sheet,
         layer: read.as_ref().ok(),
         read: read.as_ref().err().copied(),
         kind,
@@ -256,6 +306,16 @@ fn report_rows(counts: &Counts, made: u64) -> bool {
     true
 }
 
+/// Whether planes were both given and refused, as in a long run they must be.
+fn report_planes(counts: &Counts, made: u64) -> bool {
+    let met = counts.planes_given > 0 && counts.planes_refused > 0;
+    if made >= LONG_RUN && !met {
+        println!("no plane was given, or none was refused");
+        return false;
+    }
+    true
+}
+
 fn main() -> ExitCode {
     let args: Vec<u64> = std::env::args().skip(1).map(|a| a.parse().expect("numbers: CALLS SEED")).collect();
     let calls = args.first().copied().unwrap_or(100_000);
@@ -267,13 +327,15 @@ fn main() -> ExitCode {
         made = counts.by_number.values().sum();
     }
     println!("{made} calls, {} outputs, {} of them whole, {} in the exact case", counts.outputs, counts.whole, counts.exact);
-    println!("{} peaks, {} sheets written back", counts.peaks, counts.rewritten);
+    print!("{} peaks, {} sheets written back, ", counts.peaks, counts.rewritten);
+    println!("{} planes given, {} planes refused", counts.planes_given, counts.planes_refused);
     let numbers_seen = report_numbers(&counts, made);
     let rows_seen = report_rows(&counts, made);
+    let planes_seen = report_planes(&counts, made);
     if counts.failures > 0 {
         println!("{} comparisons FAILED", counts.failures);
     }
-    if !numbers_seen || !rows_seen || counts.failures > 0 {
+    if !numbers_seen || !rows_seen || !planes_seen || counts.failures > 0 {
         return ExitCode::FAILURE;
     }
     println!("all agree");

@@ -1,0 +1,77 @@
+//! Refusals: a number of document 01's table, what it means, and where the fault is.
+use std::fmt;
+
+/// Which tensor holds a bad element.
+#[derive(Debug, Clone, Copy, PartialEq, Eq)]
+pub enum Tensor {
+    /// The input of an operator.
+    Input,
+    /// The kernel of a convolution.
+    Kernel,
+    /// The plane that the peak finder was given.
+    Plane,
+}
+
+/// A refused call. It changed no element of any lent buffer. What a number does not use is 0 or `None`.
+#[derive(Debug, Clone, Copy, PartialEq, Eq)]
+pub struct Error {
+    /// The number: 1 to 9, or 20 to 24.
+    pub number: u32,
+    /// The sheet's line, for 20 to 23.
+    pub line: u32,
+    /// The tensor with a bad element, for 9.
+    pub tensor: Option<Tensor>,
+    /// The place of its first bad element, for 9.
+    pub place: usize,
+}
+
+impl Error {
+    /// The refusal with this number; number 0 is none.
+    pub(crate) fn check(number: u32, line: u32, tensor: Option<Tensor>, place: usize) -> Result<(), Error> {
+        if number == 0 { Ok(()) } else { Err(Error { number, line, tensor, place }) }
+    }
+}
+
+impl std::error::Error for Error {}
+
+impl fmt::Display for Error {
+    fn fmt(&self, f: &mut fmt::Formatter<'_>) -> fmt::Result {
+        write!(f, "number {}: {}", self.number, text(self.number))?;
+        let tensor = match self.tensor {
+            Some(Tensor::Input) => " of the input",
+            Some(Tensor::Kernel) => " of the kernel",
+            Some(Tensor::Plane) => " of the plane",
+            None => "",
+        };
+        match self.number {
+            9 => write!(f, "; at place {}{tensor}", self.place),
+            20..=23 => write!(f, "; at line {}", self.line),
+            _ => Ok(()),
+        }
+    }
+}
+
+/// What a number means, in the words of `koza_text`. A number that the library does not have gets a text that says so.
+pub fn text(number: u32) -> &'static str {
+    match number {
+        0 => "done: every output element is written",
+        1 => "axes is not 1 or 2, or a dimension that the operator uses is outside its limit",
+        2 => {
+            "an attribute outside its limit, a sheet of another operator, a same mode with transposed, axis outside its range, or an unused field not at its \
+             default"
+        }
+        3 => "C is not G*I",
+        4 => "more than 4,096 taps, or more than 16,777,216 elements in input or kernel",
+        5 => "the kernel does not fit on some axis, or a transposed output size is below 1",
+        6 => "more than 16,777,216 output elements",
+        7 => "pooling: some window holds no element",
+        8 => "a buffer's length is not exactly its element count (elements, not bytes: koza_lengths tells them)",
+        9 => "an element above 2^40 in magnitude or NaN",
+        20 => "the sheet: a wrong key or no line end, or bytes left over (line 13)",
+        21 => "the sheet: a number, or a count of numbers, that breaks the rules",
+        22 => "the sheet: an unknown word",
+        23 => "the sheet: a line that its operator does not use is not at its default",
+        24 => "the buffer is shorter than the sheet",
+        _ => "no number of this library",
+    }
+}

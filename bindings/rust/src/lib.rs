@@ -1,0 +1,163 @@
+//! Convolution, transposed convolution and max pooling with indices over lent `f32` tensors: safe functions over slices for the proved library
+//! Kozamyure.
+//!
+//! A call takes the text of a layer sheet (twelve `key=value` lines, see the library's README) and the tensors. No caller need check sheet, sizes,
+//! lengths or elements first: every call is answered for any slices and numbers, nothing panics, and a call that gives an [`Error`] leaves every lent
+//! buffer as it was.
+//!
+//! ```no_run
+//! # fn main() -> Result<(), Box<dyn std::error::Error>> {
+//! let sheet = std::fs::read("convolution.sheet")?;
+//! let lengths = kozamyure::lengths(&sheet)?;
+//! let (input, kernel) = (vec![1.0; lengths.input], vec![0.5; lengths.kernel]);
+//! let mut output = vec![0.0; lengths.output];
+//! kozamyure::convolution(&sheet, &input, &kernel, &mut output)?;
+//!
+//! let shape = kozamyure::shape(&sheet)?;
+//! let plane = kozamyure::plane(&output, shape.sizes(), 0, 0);
+//! let peak = kozamyure::peak(plane, shape.x as usize)?;
+//! println!("{} at row {}, column {}", peak.value, peak.row, peak.column);
+//! # Ok(())
+//! # }
+//! ```
+//!
+//! What is proved holds under the assumptions of `include/kozamyure.h`. Slices and the rules of borrowing exclude most faults: pointers are good for
+//! their lengths and aligned, and a buffer that is written overlaps no other and is used by no other thread. These assumptions remain:
+//!  - The floating-point environment of the thread is the default one: rounding to nearest, no flush to zero, exceptions masked. Rust assumes it too,
+//!    but C code in the same program, or the option `-ffast-math` at its linking, may set another. [`float_mode_ok`] tells of the first two.
+//!  - The target is x86-64 Linux.
+//!  - The archive that is linked has the version of these bindings. [`version`] tells.
+//!
+//! [`answers`] has the same calls with the boundary's own structs. The build links `libkozamyure.a` from `target/staticlib` of the library's folder, or
+//! from the folder that the variable KOZAMYURE_LIB names by its whole path.
+#![deny(missing_docs, unsafe_code)]
+use std::hint::black_box;
+
+pub mod answers;
+mod boundary;
+mod error;
+
+pub use answers::version;
+pub use error::{text, Error, Tensor};
+
+/// A buffer of this many bytes has room for every sheet.
+pub const SHEET_MAX: usize = 512;
+
+/// The sizes of an output. With one axis `y` is 1.
+#[derive(Debug, Clone, Copy, PartialEq, Eq)]
+pub struct Shape {
+    /// The number of spatial axes, 1 or 2.
+    pub axes: u32,
+    /// Images.
+    pub n: u32,
+    /// Channels.
+    pub c: u32,
+    /// Rows.
+    pub y: u32,
+    /// Columns.
+    pub x: u32,
+}
+
+impl Shape {
+    /// N, C, Y and X, as [`plane`] takes them.
+    pub fn sizes(&self) -> [u32; 4] {
+        [self.n, self.c, self.y, self.x]
+    }
+}
+
+/// The element counts of the buffers that a call takes.
+#[derive(Debug, Clone, Copy, PartialEq, Eq)]
+pub struct Lengths {
+    /// Elements of the input.
+    pub input: usize,
+    /// Elements of the kernel, 0 for maxpool.
+    pub kernel: usize,
+    /// Elements of the output; of values and of indices for maxpool.
+    pub output: usize,
+}
+
+/// The first largest element of a plane.
+#[derive(Debug, Clone, Copy, PartialEq)]
+pub struct Peak {
+    /// The element, with its own bits.
+    pub value: f32,
+    /// Its row.
+    pub row: usize,
+    /// Its column.
+    pub column: usize,
+}
+
+/// Reads the sheet, makes checks 1 to 7 of its own operator and gives the output's sizes. Refused with 1 to 7 and 20 to 23.
+pub fn shape(sheet: &[u8]) -> Result<Shape, Error> {
+    let a = answers::shape(sheet);
+    Error::check(a.number, a.line, None, 0)?;
+    Ok(Shape { axes: a.axes, n: a.n, c: a.c, y: a.y, x: a.x })
+}
+
+/// Reads the sheet, makes checks 1 to 7 of its own operator and gives the lengths of its buffers. Refused with 1 to 7 and 20 to 23.
+pub fn lengths(sheet: &[u8]) -> Result<Lengths, Error> {
+    let a = answers::lengths(sheet);
+    Error::check(a.number, a.line, None, 0)?;
+    Ok(Lengths { input: a.input, kernel: a.kernel, output: a.output })
+}
+
+/// Writes every element of the output \[N, G·O, OY, OX\] from the input \[N, C, Y, X\] and the kernel \[G, O, I, KY, KX\], all row-major.
+/// Refused with 1 to 6, 8, 9 and 20 to 23; the output is then as it was.
+pub fn convolution(sheet: &[u8], input: &[f32], kernel: &[f32], output: &mut [f32]) -> Result<(), Error> {
+    written(answers::convolution(sheet, input, kernel, output))
+}
+
+/// As [`convolution`], with the kernel \[G, I, O, KY, KX\].
+pub fn transposed(sheet: &[u8], input: &[f32], kernel: &[f32], output: &mut [f32]) -> Result<(), Error> {
+    written(answers::transposed(sheet, input, kernel, output))
+}
+
+/// Writes every element of values and indices \[N, C, OY, OX\] from the input \[N, C, Y, X\]. Refused with 1, 2, 4 to 9 and 20 to 23; both are then as
+/// they were.
+pub fn maxpool(sheet: &[u8], input: &[f32], values: &mut [f32], indices: &mut [i64]) -> Result<(), Error> {
+    written(answers::maxpool(sheet, input, values, indices))
+}
+
+fn written(a: answers::Answer) -> Result<(), Error> {
+    let tensor = if a.tensor == 0 { Tensor::Input } else { Tensor::Kernel };
+    Error::check(a.number, a.line, (a.number == 9).then_some(tensor), a.place)
+}
+
+/// Reads the sheet, writes it back at the start of the buffer and gives its length in bytes; nothing beyond is touched. Refused with 20 to 24; the
+/// buffer is then as it was.
+pub fn rewrite(sheet: &[u8], buffer: &mut [u8]) -> Result<usize, Error> {
+    let a = answers::rewrite(sheet, buffer);
+    Error::check(a.number, a.line, None, 0)?;
+    Ok(a.length)
+}
+
+/// The plane of an image and a channel of the tensor \[N, C, Y, X\], as that part of the caller's own slice. It is the empty part where a size is outside
+/// its limit, the length is not N·C·Y·X, or image or channel is not below its count. The limits are those of an input: an output can have more than
+/// 1,024 channels, or more than 4,096 rows or columns, and its planes are then refused. No element is looked at.
+pub fn plane(tensor: &[f32], sizes: [u32; 4], image: u32, channel: u32) -> &[f32] {
+    let part = answers::plane(tensor, sizes, image, channel);
+    tensor.get(part.start..).and_then(|t| t.get(..part.length)).unwrap_or_default()
+}
+
+/// The first largest element of a plane with rows of `width` elements. Refused with 8 where width is 0, there is no element or the length is no
+/// multiple of the width, and with 9 and the place where an element is bad.
+pub fn peak(plane: &[f32], width: usize) -> Result<Peak, Error> {
+    let a = answers::peak(plane, width);
+    Error::check(a.number, 0, (a.number == 9).then_some(Tensor::Plane), a.place)?;
+    Ok(Peak { value: a.value, row: a.row, column: a.column })
+}
+
+/// Whether the floating-point mode of this thread is the one that the promises assume: rounding to nearest, subnormal numbers kept in operands and
+/// results. Not proved.
+pub fn float_mode_ok() -> bool {
+    // The mode takes part only in what is computed while the program runs.
+    let sum = |a: f32, b: f32| black_box(black_box(a) + black_box(b)).to_bits();
+    let product = |a: f32, b: f32| black_box(black_box(a) * black_box(b)).to_bits();
+    let next = |k: u32| f32::from_bits(1.0f32.to_bits() + k);
+    let half = f32::EPSILON / 2.0;
+    // Halfway between 1 and the next float, 1 is even; halfway between the next two, the upper one.
+    let nearest = sum(1.0, half) == next(0).to_bits() && sum(next(1), half) == next(2).to_bits();
+    // A subnormal result, and a subnormal operand: 2^-126 * 2^-1, and 2^-149 * 2^23.
+    let subnormal = product(f32::MIN_POSITIVE, 0.5) == 0x0040_0000 && product(f32::from_bits(1), 8_388_608.0) == f32::MIN_POSITIVE.to_bits();
+    nearest && subnormal
+}
