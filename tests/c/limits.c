@@ -1,0 +1,1086 @@
+/* Calls every function of include/kozamyure.h at its borders and compares each answer, and what became of the lent memory, with document 01.
+ * What is expected stands in the tables below or follows from document 01's size formulas (size_along); nothing of it comes from the library.
+ * It prints how many calls it made and how many differ, the first of these in full, and ends with status 1 if one differs.
+ * It needs Linux on x86-64, and -lm for fesetround. */
+#define _GNU_SOURCE
+#include "kozamyure.h"
+#include <fenv.h>
+#include <inttypes.h>
+#include <math.h>
+#include <signal.h>
+#include <stdarg.h>
+#include <stdio.h>
+#include <stdlib.h>
+#include <string.h>
+#include <sys/mman.h>
+#include <unistd.h>
+#include <xmmintrin.h>
+
+#define COUNT(table) (sizeof(table) / sizeof(table)[0])
+#define LARGEST UINT64_C(4294967295)
+
+/* ---- calls and differences */
+
+typedef struct {
+    char text[256];
+} words;
+
+static words say(const char *format, ...) {
+    words w;
+    va_list arguments;
+    va_start(arguments, format);
+    vsnprintf(w.text, sizeof w.text, format, arguments);
+    va_end(arguments);
+    return w;
+}
+
+static unsigned long calls, differ, not_tried;
+static words about; /* the case at hand */
+static const uint8_t *sheet;
+static size_t sheet_len;
+
+static void print_sheet(void) {
+    printf("  sheet    %zu bytes: ", sheet_len);
+    for (size_t i = 0; i < sheet_len; i++)
+        sheet[i] == '\n' ? printf("\\n ") : sheet[i] < ' ' || sheet[i] > '~' ? printf("\\x%02x", sheet[i]) : putchar(sheet[i]);
+    putchar('\n');
+}
+
+/* What was expected of a function and what it did, in words. */
+static void check(const char *function, words expected, words answered) {
+    if (strcmp(expected.text, answered.text) == 0)
+        return;
+    differ++;
+    if (differ > 20)
+        return;
+    printf("%s, %s\n  expected %s\n  answered %s\n", function, about.text, expected.text, answered.text);
+    if (sheet_len > 0)
+        print_sheet();
+}
+
+/* The same, of one call. */
+static void compare(const char *function, words expected, words answered) {
+    calls++;
+    check(function, expected, answered);
+}
+
+/* ---- lent memory: it ends where a page begins that must not be touched, and the bytes before it are looked at too */
+
+enum { SHEET, INPUT, KERNEL, OUTPUT, INDICES, BUFFERS };
+enum { PAGE = 4096, ROOM = 1 << 27, GUARD = 256, PATTERN = 0xA5 };
+static const char *const BUFFER_NAMES[BUFFERS] = {"sheet", "input", "kernel", "output", "indices"};
+
+static struct {
+    unsigned char *end, *copy_end;
+    size_t bytes;
+} lent[BUFFERS];
+
+static int null_where_empty = 1;
+
+/* Address space, null where there is none. */
+static void *reserve(size_t bytes, int protection) {
+    void *p = mmap(NULL, bytes, protection, MAP_PRIVATE | MAP_ANONYMOUS | MAP_NORESERVE, -1, 0);
+    return p == MAP_FAILED ? NULL : p;
+}
+
+/* Memory was touched that is not lent: no answer comes back. */
+static void fault(int number) {
+    printf("signal %d in or after a call of this case: %s\n", number, about.text);
+    print_sheet();
+    fflush(stdout);
+    _exit(1);
+}
+
+static void make_memory(void) {
+    signal(SIGSEGV, fault);
+    signal(SIGBUS, fault);
+    for (int b = 0; b < BUFFERS; b++) {
+        unsigned char *p = reserve(PAGE + (size_t)ROOM + PAGE, PROT_READ | PROT_WRITE), *copy = reserve(PAGE + (size_t)ROOM, PROT_READ | PROT_WRITE);
+        if (!p || !copy || mprotect(p + PAGE + ROOM, PAGE, PROT_NONE) != 0) {
+            fprintf(stderr, "limits: no memory\n");
+            exit(2);
+        }
+        lent[b].end = p + PAGE + ROOM;
+        lent[b].copy_end = copy + PAGE + ROOM;
+    }
+}
+
+static void *lend(int b, size_t bytes) {
+    if (bytes > ROOM) {
+        fprintf(stderr, "limits: %zu bytes are more than the %s may have (%s)\n", bytes, BUFFER_NAMES[b], about.text);
+        exit(2);
+    }
+    lent[b].bytes = bytes;
+    memset(lent[b].end - bytes - GUARD, PATTERN, bytes + GUARD);
+    return bytes == 0 && null_where_empty ? NULL : lent[b].end - bytes;
+}
+
+static void remember(int b) {
+    memcpy(lent[b].copy_end - lent[b].bytes - GUARD, lent[b].end - lent[b].bytes - GUARD, lent[b].bytes + GUARD);
+}
+
+static int kept(int b) {
+    return memcmp(lent[b].copy_end - lent[b].bytes - GUARD, lent[b].end - lent[b].bytes - GUARD, lent[b].bytes + GUARD) == 0;
+}
+
+/* The first element that still holds the pattern, or the count of elements. */
+static size_t not_written(int b, size_t element_bytes) {
+    const unsigned char *start = lent[b].end - lent[b].bytes, *pattern = lent[b].copy_end - lent[b].bytes;
+    size_t i = 0, count = lent[b].bytes / element_bytes;
+    while (i < count && memcmp(start + i * element_bytes, pattern + i * element_bytes, element_bytes) != 0)
+        i++;
+    return i;
+}
+
+/* What a call with this number did to the lent memory: it should keep all, or, with 0, write every output. */
+static words memory_after(uint32_t number) {
+    for (int b = SHEET; b < (number == 0 ? OUTPUT : BUFFERS); b++)
+        if (!kept(b))
+            return say("%s changed", BUFFER_NAMES[b]);
+    for (int b = OUTPUT; number == 0 && b < BUFFERS; b++) {
+        if (memcmp(lent[b].end - lent[b].bytes - GUARD, lent[b].copy_end - lent[b].bytes - GUARD, GUARD) != 0)
+            return say("bytes before the %s changed", BUFFER_NAMES[b]);
+        size_t size = b == OUTPUT ? sizeof(float) : sizeof(int64_t), first = not_written(b, size);
+        if (first < lent[b].bytes / size)
+            return say("%s: element %zu not written", BUFFER_NAMES[b], first);
+    }
+    return say(number == 0 ? "outputs written" : "memory kept");
+}
+
+static void set_sheet(const void *bytes, size_t len) {
+    uint8_t *to = lend(SHEET, len);
+    if (len > 0)
+        memcpy(to, bytes, len);
+    remember(SHEET);
+    sheet = to;
+    sheet_len = len;
+}
+
+/* ---- layers */
+
+enum op { CONVOLUTION, TRANSPOSED, MAXPOOL, OPS };
+static const char *const OP_NAMES[OPS] = {"convolution", "transposed", "maxpool"};
+static const char *const FUNCTIONS[OPS] = {"koza_convolution", "koza_transposed", "koza_maxpool"};
+static const char *const MODES[] = {"explicit", "same_upper", "same_lower", "valid"};
+
+/* The numbers of a sheet. From Y on each number of Y is followed by that of X. */
+enum field { NONE, N, C, G, O, I, Y, X, KY, KX, SY, SX, DY, DX, BY, BX, EY, EX, PY, PX, FIELDS };
+static const struct {
+    const char *name;
+    uint32_t line;
+} FIELD[FIELDS] = {
+    [N] = {"N", 3}, [C] = {"C", 3}, [G] = {"G", 4}, [O] = {"O", 4}, [I] = {"I", 4}, [Y] = {"Y", 3}, [X] = {"X", 3}, [KY] = {"KY", 4},
+    [KX] = {"KX", 4}, [SY] = {"stride Y", 5}, [SX] = {"stride X", 5}, [DY] = {"dilation Y", 6}, [DX] = {"dilation X", 6},
+    [BY] = {"pad at Y's begin", 8}, [BX] = {"pad at X's begin", 8}, [EY] = {"pad at Y's end", 9}, [EX] = {"pad at X's end", 9}, [PY] = {"output padding Y", 10},
+    [PX] = {"output padding X", 10},
+};
+
+typedef struct {
+    enum op op;
+    int axes, axis;
+    const char *auto_pad, *rounding;
+    uint64_t field[FIELDS];
+} layer;
+
+/* Where the tests start from: every operator takes it. Its pads, one stride and one dilation are not the defaults. */
+static layer base(enum op op, int axes) {
+    layer l = {op, axes, 0, "explicit", "floor",
+               {[N] = 2, [C] = 4, [G] = 2, [O] = 3, [I] = 2, [Y] = 6, [X] = 7, [KY] = 3, [KX] = 2, [SY] = 2, [SX] = 1, [DY] = 1, [DX] = 2,
+                [BY] = 1, [BX] = 1, [EY] = 1, [EX] = 1}};
+    if (op == TRANSPOSED)
+        l.field[PY] = 1;
+    if (op == MAXPOOL)
+        l.field[G] = l.field[O] = l.field[I] = 1;
+    if (axes == 1) {
+        l.field[Y] = l.field[KY] = l.field[SY] = l.field[DY] = 1;
+        l.field[BY] = l.field[EY] = l.field[PY] = 0;
+    }
+    return l;
+}
+
+static int in_sheet(const layer *l, enum field f) {
+    return !(l->op == MAXPOOL && f >= G && f <= I) && !(l->axes == 1 && f >= Y && (f - Y) % 2 == 0);
+}
+
+static int is_pad(enum field f) {
+    return f >= BY && f <= EX;
+}
+
+static int is_same(const layer *l) {
+    return strncmp(l->auto_pad, "same", 4) == 0;
+}
+
+static int put_list(char *to, const layer *l, const char *key, const enum field *fields, size_t count) {
+    int n = sprintf(to, "%s", key);
+    for (size_t i = 0; i < count; i++)
+        if (in_sheet(l, fields[i]))
+            n += sprintf(to + n, "%s%" PRIu64, to[n - 1] == '=' ? "" : ",", l->field[fields[i]]);
+    return n + sprintf(to + n, "\n");
+}
+
+#define LIST(key, ...) n += put_list(to + n, l, key, (const enum field[]){__VA_ARGS__}, COUNT(((const enum field[]){__VA_ARGS__})))
+
+/* The layer's sheet, its length returned. */
+static size_t write_layer(char *to, const layer *l) {
+    int n = sprintf(to, "op=%s\naxes=%d\n", OP_NAMES[l->op], l->axes);
+    LIST("input=", N, C, Y, X);
+    if (l->op == TRANSPOSED)
+        LIST("kernel=", G, I, O, KY, KX);
+    else
+        LIST("kernel=", G, O, I, KY, KX);
+    LIST("strides=", SY, SX);
+    LIST("dilations=", DY, DX);
+    n += sprintf(to + n, "auto_pad=%s\n", l->auto_pad);
+    LIST("pads_begin=", BY, BX);
+    LIST("pads_end=", EY, EX);
+    LIST("output_padding=", PY, PX);
+    return (size_t)(n + sprintf(to + n, "rounding=%s\naxis=%d\n", l->rounding, l->axis));
+}
+
+/* ---- the sizes of an accepted layer, by document 01, "Sizes along one axis" */
+
+static uint64_t size_along(const layer *l, int x) {
+    const uint64_t *f = l->field;
+    uint64_t in = f[Y + x], s = f[SY + x], k = (f[KY + x] - 1) * f[DY + x] + 1, pads = f[BY + x] + f[EY + x];
+    if (strcmp(l->auto_pad, "explicit") != 0)
+        pads = 0;
+    if (l->op == TRANSPOSED)
+        return (in - 1) * s + k - pads + f[PY + x];
+    if (is_same(l))
+        return (in + s - 1) / s;
+    if (strcmp(l->auto_pad, "valid") == 0)
+        return (in - k + 1 + s - 1) / s;
+    uint64_t room = in + pads - k;
+    return (l->op == MAXPOOL && strcmp(l->rounding, "ceil") == 0 ? (room + s - 1) / s : room / s) + 1;
+}
+
+static koza_shape_answer shape_of(const layer *l) {
+    uint64_t channels = l->op == MAXPOOL ? l->field[C] : l->field[G] * l->field[O];
+    return (koza_shape_answer){.axes = (uint32_t)l->axes, .n = (uint32_t)l->field[N], .c = (uint32_t)channels, .y = (uint32_t)size_along(l, 0),
+                               .x = (uint32_t)size_along(l, 1)};
+}
+
+static koza_lengths_answer lengths_of(const layer *l) {
+    const uint64_t *f = l->field;
+    koza_shape_answer s = shape_of(l);
+    return (koza_lengths_answer){.input = f[N] * f[C] * f[Y] * f[X], .kernel = l->op == MAXPOOL ? 0 : f[G] * f[O] * f[I] * f[KY] * f[KX],
+                                 .output = (size_t)s.n * s.c * s.y * s.x};
+}
+
+/* ---- calls with the sheet at hand */
+
+static words shape_words(koza_shape_answer s, const char *memory) {
+    return say("number %u, line %u, axes %u, n %u, c %u, y %u, x %u; %s", s.number, s.line, s.axes, s.n, s.c, s.y, s.x, memory);
+}
+
+static words lengths_words(koza_lengths_answer n, const char *memory) {
+    return say("number %u, line %u, input %zu, kernel %zu, output %zu; %s", n.number, n.line, n.input, n.kernel, n.output, memory);
+}
+
+static words answer_words(koza_answer a, const char *memory) {
+    return say("number %u, line %u, tensor %u, place %zu; %s", a.number, a.line, a.tensor, a.place, memory);
+}
+
+static void call_shape(koza_shape_answer expected) {
+    koza_shape_answer s = koza_shape(sheet, sheet_len);
+    compare("koza_shape", shape_words(expected, "memory kept"), shape_words(s, kept(SHEET) ? "memory kept" : "sheet changed"));
+}
+
+static void call_lengths(koza_lengths_answer expected) {
+    koza_lengths_answer n = koza_lengths(sheet, sheet_len);
+    compare("koza_lengths", lengths_words(expected, "memory kept"), lengths_words(n, kept(SHEET) ? "memory kept" : "sheet changed"));
+}
+
+/* The lengths of the buffers that are lent, in elements. */
+typedef struct {
+    size_t input, kernel, output, indices;
+} lengths;
+
+static lengths lend_all(enum op op, koza_lengths_answer n) {
+    return (lengths){n.input, n.kernel, n.output, op == MAXPOOL ? n.output : 0};
+}
+
+/* A float of the input (tensor 0) or the kernel (1), by its bits. */
+typedef struct {
+    uint32_t tensor;
+    size_t place;
+    uint32_t bits;
+} element;
+
+static koza_answer call(enum op op, const float *input, const float *kernel, float *output, int64_t *indices, lengths n) {
+    switch (op) {
+    case CONVOLUTION: return koza_convolution(sheet, sheet_len, input, n.input, kernel, n.kernel, output, n.output);
+    case TRANSPOSED: return koza_transposed(sheet, sheet_len, input, n.input, kernel, n.kernel, output, n.output);
+    default: return koza_maxpool(sheet, sheet_len, input, n.input, output, n.output, indices, n.indices);
+    }
+}
+
+static void call_operator(enum op op, lengths n, const element *put, size_t puts, koza_answer expected) {
+    float *input = lend(INPUT, n.input * sizeof *input), *kernel = lend(KERNEL, n.kernel * sizeof *kernel);
+    float *output = lend(OUTPUT, n.output * sizeof *output);
+    int64_t *indices = lend(INDICES, n.indices * sizeof *indices);
+    for (size_t i = 0; i < n.input; i++)
+        input[i] = (float)(i % 3 + 1);
+    for (size_t i = 0; i < n.kernel; i++)
+        kernel[i] = (float)(i % 5 + 1);
+    for (size_t i = 0; i < puts; i++)
+        memcpy((put[i].tensor == 0 ? input : kernel) + put[i].place, &put[i].bits, sizeof put[i].bits);
+    for (int b = INPUT; b < BUFFERS; b++)
+        remember(b);
+    koza_answer a = call(op, input, kernel, output, indices, n);
+    const char *memory = expected.number == 0 ? "outputs written" : "memory kept";
+    compare(FUNCTIONS[op], answer_words(expected, memory), answer_words(a, memory_after(a.number).text));
+}
+
+/* A number that the sheet decides: all functions that take the layer's own operator. */
+static void try_layer(const layer *l, uint32_t number) {
+    char text[KOZA_SHEET_MAX * 2];
+    uint32_t line = number == 23 ? 10 : 0; /* of the lists, output_padding alone can be unused */
+    set_sheet(text, write_layer(text, l));
+    call_shape(number == 0 ? shape_of(l) : (koza_shape_answer){.number = number, .line = line});
+    call_lengths(number == 0 ? lengths_of(l) : (koza_lengths_answer){.number = number, .line = line});
+    koza_lengths_answer any = {.input = 5, .kernel = 4, .output = 3}; /* lengths that no check before 8 looks at */
+    call_operator(l->op, lend_all(l->op, number == 0 ? lengths_of(l) : any), NULL, 0, (koza_answer){.number = number, .line = line});
+}
+
+/* A sheet that the reader refuses: all functions that read one. */
+static void try_refused_sheet(uint32_t number, uint32_t line) {
+    call_shape((koza_shape_answer){.number = number, .line = line});
+    call_lengths((koza_lengths_answer){.number = number, .line = line});
+    for (int op = 0; op < OPS; op++)
+        call_operator((enum op)op, (lengths){5, 4, 3, op == MAXPOOL ? 3 : 0}, NULL, 0, (koza_answer){.number = number, .line = line});
+    uint8_t *buffer = lend(OUTPUT, KOZA_SHEET_MAX);
+    remember(OUTPUT);
+    koza_written w = koza_rewrite(sheet, sheet_len, buffer, KOZA_SHEET_MAX);
+    compare("koza_rewrite", say("number %u, line %u, length 0; memory kept", number, line),
+            say("number %u, line %u, length %zu; %s", w.number, w.line, w.length, memory_after(number).text));
+}
+
+/* ---- every number of a sheet at its limits */
+
+/* For each operator (convolution, transposed, maxpool): the number outside of least..limit, at least and at limit, where all else is as in base().
+ * Its rows: convolution and maxpool P 8, k' 3; its columns: P 9, k' 3; transposed 10 + 3 - 2 + 1 rows, 6 + 3 - 2 columns. */
+static const struct {
+    enum field field;
+    uint64_t least, limit;
+    uint32_t outside[OPS], at_least[OPS], at_limit[OPS];
+} LIMITS[] = {
+    {N, 1, 16, {1, 1, 1}, {0, 0, 0}, {0, 0, 0}},
+    {C, 1, 1024, {1, 1, 1}, {3, 3, 0}, {3, 3, 0}}, /* C is not G*I = 4 */
+    {G, 1, 1024, {1, 1, 1}, {3, 3, 0}, {3, 3, 0}},
+    {O, 1, 1024, {1, 1, 1}, {0, 0, 0}, {0, 0, 0}},
+    {I, 1, 1024, {1, 1, 1}, {3, 3, 0}, {3, 3, 0}},
+    {Y, 1, 4096, {1, 1, 1}, {0, 0, 0}, {0, 0, 0}},
+    {X, 1, 4096, {1, 1, 1}, {0, 0, 7}, {0, 0, 0}},   /* columns -1 and 1 of one: no element */
+    {KY, 1, 64, {1, 1, 1}, {0, 0, 7}, {5, 0, 5}},    /* row -1 alone; k' 64 */
+    {KX, 1, 64, {1, 1, 1}, {0, 0, 7}, {5, 0, 5}},    /* column -1 alone; k' 127 */
+    {SY, 1, 16, {2, 2, 2}, {0, 0, 0}, {0, 0, 0}},
+    {SX, 1, 16, {2, 2, 2}, {0, 0, 0}, {0, 0, 0}},
+    {DY, 1, 16, {2, 2, 2}, {0, 0, 0}, {5, 0, 5}},    /* k' 33 */
+    {DX, 1, 16, {2, 2, 2}, {0, 0, 0}, {5, 0, 5}},    /* k' 17 */
+    {BY, 0, 1024, {2, 2, 2}, {0, 0, 0}, {0, 5, 7}},  /* transposed out < 1; windows before the input */
+    {BX, 0, 1024, {2, 2, 2}, {0, 0, 0}, {0, 5, 7}},
+    {EY, 0, 1024, {2, 2, 2}, {0, 0, 0}, {0, 5, 7}},
+    {EX, 0, 1024, {2, 2, 2}, {0, 0, 0}, {0, 5, 7}},
+    {PY, 0, 15, {23, 2, 23}, {0, 0, 0}, {23, 0, 23}}, /* transposed alone uses output padding */
+    {PX, 0, 15, {23, 2, 23}, {0, 0, 0}, {23, 0, 23}},
+};
+
+static void try_value(layer l, enum field f, uint64_t value, uint32_t number) {
+    about = say("%s, axes %d, %s, %s %" PRIu64, OP_NAMES[l.op], l.axes, l.auto_pad, FIELD[f].name, value);
+    l.field[f] = value;
+    try_layer(&l, number);
+}
+
+/* One number more than a sheet can show. */
+static void try_too_large(layer l, enum field f) {
+    char text[KOZA_SHEET_MAX * 2];
+    about = say("%s, axes %d, %s 4294967296", OP_NAMES[l.op], l.axes, FIELD[f].name);
+    l.field[f] = LARGEST + 1;
+    set_sheet(text, write_layer(text, &l));
+    try_refused_sheet(21, FIELD[f].line);
+}
+
+static void try_limits(layer l) {
+    int explicit = strcmp(l.auto_pad, "explicit") == 0;
+    uint32_t taken = l.op == TRANSPOSED && is_same(&l) ? 2 : 0; /* the layer as it is: transposed has no same mode */
+    for (size_t i = 0; i < COUNT(LIMITS); i++) {
+        enum field f = LIMITS[i].field;
+        if (!in_sheet(&l, f))
+            continue;
+        uint32_t outside = is_pad(f) && !explicit ? taken : LIMITS[i].outside[l.op]; /* only explicit looks at the pads */
+        if (LIMITS[i].least > 0)
+            try_value(l, f, LIMITS[i].least - 1, outside);
+        try_value(l, f, LIMITS[i].limit + 1, outside);
+        try_value(l, f, LARGEST, outside);
+        try_value(l, f, l.field[f], taken);
+        if (explicit || is_pad(f)) {
+            try_value(l, f, LIMITS[i].least, explicit ? LIMITS[i].at_least[l.op] : taken);
+            try_value(l, f, LIMITS[i].limit, explicit ? LIMITS[i].at_limit[l.op] : taken);
+        }
+        try_too_large(l, f);
+    }
+}
+
+/* ---- several numbers at once */
+
+typedef struct {
+    enum field field;
+    uint64_t value;
+} setting;
+
+/* The lowest number that holds; counts at 16,777,216 = 2^24 and one more (97*257*673), some whose product is small modulo 2^32. */
+static const struct {
+    enum op op;
+    uint32_t number;
+    setting set[13];
+} COMBINED[] = {
+#define NO_PADS {BY, 0}, {BX, 0}, {EY, 0}, {EX, 0}
+    {CONVOLUTION, 1, {{N, 0}, {SY, 0}, {C, 5}}},
+    {CONVOLUTION, 2, {{SY, 0}, {C, 5}}},
+    {CONVOLUTION, 3, {{C, 5}, {I, 1024}}},                                           /* K 6,144 */
+    {CONVOLUTION, 4, {{C, 1024}, {G, 1}, {I, 1024}, {Y, 1}, {BY, 0}}},               /* P 2 < k' 3 */
+    {CONVOLUTION, 5, {{Y, 1}, {BY, 0}, {N, 16}, {O, 1024}, {X, 4096}}},              /* 2^27 outputs for each row */
+    {CONVOLUTION, 0, {{C, 64}, {G, 1}, {I, 64}, {KY, 8}, {KX, 8}, {DX, 1}}},         /* K 4,096 */
+    {CONVOLUTION, 4, {{C, 65}, {G, 1}, {I, 65}, {KY, 8}, {KX, 8}, {DX, 1}}},         /* K 4,160 */
+    {CONVOLUTION, 4, {{N, 16}, {C, 1024}, {G, 1024}, {I, 1}, {Y, 4096}, {X, 4096}}}, /* 2^38 inputs */
+    {CONVOLUTION, 4, {{N, 1}, {C, 97}, {G, 97}, {I, 1}, {Y, 257}, {X, 673}}},        /* 2^24 + 1 inputs */
+    {CONVOLUTION, 4, {{C, 1024}, {G, 1024}, {I, 1}, {O, 1024}, {KY, 64}, {KX, 64}}}, /* 2^32 weights */
+    {CONVOLUTION, 0, {{C, 4}, {G, 4}, {I, 1}, {O, 1024}, {Y, 64}, {X, 64}, {KY, 64}, {KX, 64}, {DX, 1}, NO_PADS}}, /* 2^24 weights */
+    {CONVOLUTION, 4, {{C, 5}, {G, 5}, {I, 1}, {O, 1024}, {Y, 64}, {X, 64}, {KY, 64}, {KX, 64}, {DX, 1}, NO_PADS}},
+    {CONVOLUTION, 6, {{N, 16}, {C, 1024}, {G, 1024}, {I, 1}, {O, 1024}, {Y, 256}, {X, 1}, {SY, 1}}}, /* 2^32 outputs */
+    {TRANSPOSED, 1, {{N, 0}, {SY, 0}, {C, 5}}},
+    {TRANSPOSED, 2, {{SY, 0}, {C, 5}}},
+    {TRANSPOSED, 3, {{C, 5}, {I, 1024}}},
+    {TRANSPOSED, 4, {{C, 1024}, {G, 1}, {I, 1024}, {BY, 1024}}},
+    {TRANSPOSED, 5, {{BY, 1024}, {N, 16}, {O, 1024}, {X, 4096}}},
+    {TRANSPOSED, 0, {{C, 64}, {G, 1}, {I, 64}, {KY, 8}, {KX, 8}, {DX, 1}}},
+    {TRANSPOSED, 4, {{C, 65}, {G, 1}, {I, 65}, {KY, 8}, {KX, 8}, {DX, 1}}},
+    {TRANSPOSED, 4, {{N, 16}, {C, 1024}, {G, 1024}, {I, 1}, {Y, 4096}, {X, 4096}}},
+    {TRANSPOSED, 4, {{N, 1}, {C, 97}, {G, 97}, {I, 1}, {Y, 257}, {X, 673}}},
+    {TRANSPOSED, 4, {{C, 1024}, {G, 1024}, {I, 1}, {O, 1024}, {KY, 64}, {KX, 64}}},
+    {TRANSPOSED, 6, {{N, 1}, {C, 1}, {G, 1}, {I, 1}, {Y, 4096}, {X, 4096}}}, /* 3 planes of 8,192 by 4,096 */
+    {MAXPOOL, 1, {{N, 0}, {SY, 0}, {KX, 64}}},
+    {MAXPOOL, 2, {{SY, 0}, {N, 16}, {C, 1024}, {Y, 4096}}},
+    {MAXPOOL, 4, {{N, 16}, {C, 1024}, {Y, 4096}, {X, 4096}, {KY, 64}, {KX, 64}}},
+    {MAXPOOL, 4, {{N, 1}, {C, 97}, {Y, 257}, {X, 673}}},
+    {MAXPOOL, 5, {{N, 16}, {C, 1024}, {Y, 1}, {BY, 0}, {X, 1024}, {BX, 1024}}},
+    {MAXPOOL, 6, {{N, 16}, {C, 1024}, {Y, 1}, {X, 1024}, {BX, 1024}}},               /* windows before the input: 7 */
+    {MAXPOOL, 6, {{N, 1}, {C, 97}, {Y, 256}, {X, 672}, {KY, 2}, {SY, 1}, {DX, 1}}},  /* 2^24 + 1 outputs */
+    {MAXPOOL, 0, {{N, 1}, {C, 1}, {Y, 4096}, {X, 4096}, {SY, 16}, {SX, 16}}},        /* 2^24 inputs */
+};
+
+static void try_combined(void) {
+    for (size_t i = 0; i < COUNT(COMBINED); i++) {
+        layer l = base(COMBINED[i].op, 2);
+        about = say("combined %zu", i);
+        for (const setting *s = COMBINED[i].set; s < COMBINED[i].set + COUNT(COMBINED[i].set) && s->field != NONE; s++)
+            l.field[s->field] = s->value;
+        try_layer(&l, COMBINED[i].number);
+    }
+}
+
+/* A layer in which all is 1 or a default. */
+static layer plain(enum op op, int axes) {
+    layer l = {op, axes, 0, "explicit", "floor", {0}};
+    for (int f = N; f <= DX; f++)
+        l.field[f] = 1;
+    return l;
+}
+
+/* One tap, no pads: each plane of the output has as many elements as the input. */
+static const struct {
+    uint32_t number;
+    uint64_t planes, y, x;
+} PLANES[] = {{0, 1, 4096, 4096}, {0, 96, 257, 673}, {6, 97, 257, 673}, {6, 2, 4096, 4096}, {6, 1024, 4096, 1024}};
+
+static void try_planes_of_outputs(enum op op) {
+    for (size_t i = 0; i < COUNT(PLANES); i++) {
+        layer l = plain(op, 2);
+        l.field[O] = PLANES[i].planes;
+        l.field[Y] = PLANES[i].y;
+        l.field[X] = PLANES[i].x;
+        about = say("%s, one tap, %" PRIu64 " planes of %" PRIu64 " by %" PRIu64, OP_NAMES[op], PLANES[i].planes, PLANES[i].y, PLANES[i].x);
+        try_layer(&l, PLANES[i].number);
+    }
+}
+
+/* ---- words, the axis, another operator's sheet */
+
+/* Document 01: axis runs from -R to R - 1, R being 3 or 4; the layer that it belongs to is accepted otherwise. */
+static void try_axis(int axes) {
+    for (int axis = -9; axis <= 9; axis++)
+        for (int ceil = 0; ceil < 2; ceil++) {
+            layer l = base(MAXPOOL, axes);
+            l.axis = axis;
+            l.rounding = ceil ? "ceil" : "floor";
+            about = say("maxpool, axes %d, axis %d, %s", axes, axis, l.rounding);
+            try_layer(&l, axis < -(axes + 2) || axis > axes + 1 ? 2 : 0);
+        }
+}
+
+/* The operator that is called decides what is used: a sheet of another is 2, and 1 where a size that both use is outside. */
+static void try_other_operators(enum op of, int axes) {
+    char text[KOZA_SHEET_MAX * 2];
+    layer l = base(of, axes);
+    for (uint32_t number = 2; number >= 1; number--) {
+        l.field[X] = number == 1 ? 4097 : l.field[X];
+        set_sheet(text, write_layer(text, &l));
+        for (int op = 0; op < OPS; op++) {
+            about = say("%s on a sheet of %s, axes %d, X %" PRIu64, OP_NAMES[op], OP_NAMES[of], axes, l.field[X]);
+            if (op != (int)of)
+                call_operator((enum op)op, (lengths){5, 4, 3, op == MAXPOOL ? 3 : 0}, NULL, 0, (koza_answer){.number = number});
+        }
+    }
+}
+
+/* ---- lengths and elements: numbers 8 and 9 */
+
+enum { QUIET_NAN = 0x7FC00000 };
+
+static size_t *length_of(lengths *n, int b) {
+    return b == INPUT ? &n->input : b == KERNEL ? &n->kernel : b == OUTPUT ? &n->output : &n->indices;
+}
+
+/* Each buffer none, one short, one long; the input holds a NaN, which is looked at later. */
+static void try_lengths(enum op op, int axes) {
+    char text[KOZA_SHEET_MAX * 2];
+    layer l = base(op, axes);
+    set_sheet(text, write_layer(text, &l));
+    for (int b = INPUT; b < BUFFERS; b++)
+        for (int change = -2; change <= 1; change++) {
+            lengths n = lend_all(op, lengths_of(&l));
+            size_t *length = length_of(&n, b), right = *length;
+            if (right == 0 || change == 0)
+                continue; /* a buffer that the operator has not, or the right length */
+            *length = change == -2 ? 0 : right + (size_t)change;
+            about = say("%s, axes %d, %s of %zu elements in place of %zu", OP_NAMES[op], axes, BUFFER_NAMES[b], *length, right);
+            element nan = {0, 0, (uint32_t)QUIET_NAN};
+            call_operator(op, n, &nan, n.input > 0, (koza_answer){.number = 8});
+        }
+}
+
+/* A buffer 2^32 elements too long; it is not looked at. */
+static void try_long_buffer(enum op op, int b) {
+    char text[KOZA_SHEET_MAX * 2];
+    layer l = base(op, 2);
+    lengths n = lend_all(op, lengths_of(&l));
+    size_t *length = length_of(&n, b), size = b == INDICES ? sizeof(int64_t) : sizeof(float);
+    if (*length == 0)
+        return;
+    *length += LARGEST + 1;
+    about = say("%s, %s of %zu elements", OP_NAMES[op], BUFFER_NAMES[b], *length);
+    void *memory = reserve(*length * size, PROT_READ | PROT_WRITE);
+    if (!memory) {
+        not_tried++;
+        return;
+    }
+    set_sheet(text, write_layer(text, &l));
+    float *input = lend(INPUT, lengths_of(&l).input * sizeof *input), *kernel = lend(KERNEL, lengths_of(&l).kernel * sizeof *kernel);
+    float *output = lend(OUTPUT, lengths_of(&l).output * sizeof *output);
+    int64_t *indices = lend(INDICES, lengths_of(&l).output * sizeof *indices);
+    for (int i = INPUT; i < BUFFERS; i++)
+        remember(i);
+    koza_answer a = call(op, b == INPUT ? memory : input, b == KERNEL ? memory : kernel, b == OUTPUT ? memory : output,
+                         b == INDICES ? memory : indices, n);
+    compare(FUNCTIONS[op], answer_words((koza_answer){.number = 8}, "memory kept"), answer_words(a, memory_after(8).text));
+    munmap(memory, *length * size);
+}
+
+/* Floats by their bits; 2^40 is the largest magnitude that is taken. */
+static const struct {
+    const char *what;
+    uint32_t bits, bad;
+} ELEMENTS[] = {
+    {"2^40", 0x53800000, 0},
+    {"-2^40", 0xD3800000, 0},
+    {"-0", 0x80000000, 0},
+    {"the least float above 0", 0x00000001, 0},
+    {"the next above 2^40", 0x53800001, 1},
+    {"the next below -2^40", 0xD3800001, 1},
+    {"the largest float", 0x7F7FFFFF, 1},
+    {"infinity", 0x7F800000, 1},
+    {"-infinity", 0xFF800000, 1},
+    {"NaN", QUIET_NAN, 1},
+    {"a signalling NaN", 0x7F800001, 1},
+    {"a NaN with all bits set", 0xFFFFFFFF, 1},
+};
+
+/* Where the elements are put: in the input and the kernel, first, last or none. The first bad one is told, of the input before the kernel. */
+static void try_element(const layer *l, size_t e, int input_first, int input_last, int kernel_first, int kernel_last) {
+    koza_lengths_answer n = lengths_of(l);
+    element put[4], *end = put;
+    if (input_first)
+        *end++ = (element){0, 0, ELEMENTS[e].bits};
+    if (input_last)
+        *end++ = (element){0, n.input - 1, ELEMENTS[e].bits};
+    if (kernel_first && n.kernel > 0)
+        *end++ = (element){1, 0, ELEMENTS[e].bits};
+    if (kernel_last && n.kernel > 0)
+        *end++ = (element){1, n.kernel - 1, ELEMENTS[e].bits};
+    koza_answer expected = {.number = 0};
+    if (ELEMENTS[e].bad && end > put)
+        expected = (koza_answer){.number = 9, .tensor = put[0].tensor, .place = put[0].place};
+    about = say("%s, axes %d, %s as input's first %d, last %d, kernel's first %d, last %d", OP_NAMES[l->op], l->axes, ELEMENTS[e].what, input_first,
+                input_last, kernel_first, kernel_last);
+    call_operator(l->op, lend_all(l->op, n), put, (size_t)(end - put), expected);
+}
+
+static void try_elements(enum op op, int axes) {
+    char text[KOZA_SHEET_MAX * 2];
+    layer l = base(op, axes);
+    set_sheet(text, write_layer(text, &l));
+    for (size_t e = 0; e < COUNT(ELEMENTS); e++)
+        for (int where = 0; where < 16; where++)
+            try_element(&l, e, where & 1, where >> 1 & 1, where >> 2 & 1, where >> 3 & 1);
+}
+
+/* ---- what accepted calls leave: document 01's bench cases with one axis, and the index of the first of two equal elements */
+
+static const struct {
+    enum op op;
+    const char *auto_pad;
+    uint64_t x, kx, stride;
+    float input[8], kernel[4], output[8];
+    int64_t indices[8];
+} RESULTS[] = {
+    {TRANSPOSED, "explicit", 2, 3, 2, {1, 2}, {1, 1, 1}, {1, 1, 3, 2, 2}, {0}},
+    {CONVOLUTION, "explicit", 1, 1, 1, {-0.0f}, {1}, {0}, {0}},
+    {CONVOLUTION, "explicit", 2, 2, 1, {4096, 1}, {4096, 1}, {16777216}, {0}},
+    {MAXPOOL, "valid", 7, 3, 1, {-1, 2, 3, 5, -7, 9, 1}, {0}, {3, 5, 5, 9, 9}, {2, 3, 3, 5, 5}},
+    {MAXPOOL, "valid", 4, 2, 2, {-0.0f, 0, 0, -0.0f}, {0}, {-0.0f, 0}, {0, 2}},
+};
+
+static void try_result(size_t i) {
+    char text[KOZA_SHEET_MAX * 2];
+    layer l = plain(RESULTS[i].op, 1);
+    l.auto_pad = RESULTS[i].auto_pad;
+    l.field[X] = RESULTS[i].x;
+    l.field[KX] = RESULTS[i].kx;
+    l.field[SX] = RESULTS[i].stride;
+    set_sheet(text, write_layer(text, &l));
+    about = say("result %zu", i);
+    element put[12];
+    size_t inputs = lengths_of(&l).input, kernels = lengths_of(&l).kernel, outputs = lengths_of(&l).output;
+    for (size_t k = 0; k < inputs + kernels; k++) {
+        put[k] = (element){k >= inputs, k < inputs ? k : k - inputs, 0};
+        memcpy(&put[k].bits, k < inputs ? &RESULTS[i].input[k] : &RESULTS[i].kernel[k - inputs], sizeof put[k].bits);
+    }
+    call_operator(l.op, lend_all(l.op, lengths_of(&l)), put, inputs + kernels, (koza_answer){0});
+    const unsigned char *output = lent[OUTPUT].end - lent[OUTPUT].bytes, *indices = lent[INDICES].end - lent[INDICES].bytes;
+    int same = memcmp(output, RESULTS[i].output, outputs * sizeof(float)) == 0;
+    same = same && (l.op != MAXPOOL || memcmp(indices, RESULTS[i].indices, outputs * sizeof(int64_t)) == 0);
+    check(FUNCTIONS[l.op], say("the outputs of the table"), say(same ? "the outputs of the table" : "other outputs"));
+}
+
+/* ---- sheets that the reader refuses */
+
+/* The number and its line; the line of the sheet of base(op, 2) that each text takes the place of: 13 is what follows the sheet, 0 the whole of it.
+ * '@' stands for the byte 0. */
+static const struct {
+    uint32_t number, at;
+    enum op op;
+    uint32_t line;
+    const char *texts[20];
+} SHEETS[] = {
+    {20, 1, MAXPOOL, 0, {"", "\n", "@", "op=maxpool"}},
+    {20, 2, MAXPOOL, 0, {"op=maxpool\n", "op=maxpool\n\n"}},
+    {20, 1, MAXPOOL, 1, {"Op=maxpool", " op=maxpool", "op =maxpool", "op", "", "=maxpool", "\xEF\xBB\xBFop=maxpool"}},
+    {20, 2, MAXPOOL, 1, {"op=maxpool\nop=maxpool", "op=maxpool\n"}},
+    {22, 1, MAXPOOL, 1, {"op=maxpool\r", "op=maxpool ", "op= maxpool", "op=maxpools", "op=maxpoo", "op=MaxPool", "op=maxpool@", "op="}},
+    {22, 1, MAXPOOL, 1, {"op=pool\naxes=9"}}, /* the first bad line */
+    {21, 2, MAXPOOL, 1, {"op=maxpool\naxes=9\ninput=x"}},
+    {20, 2, MAXPOOL, 2, {"axis=2", "axes:2", "Axes=2", ""}},
+    {21, 2, MAXPOOL, 2, {"axes=0", "axes=3", "axes=4294967295", "axes=4294967298", "axes=02", "axes=+2", "axes=-2", "axes=", "axes=2 ", "axes= 2",
+                         "axes=2\r", "axes=2@", "axes=2,", "axes=2,2", "axes=two"}},
+    {20, 3, MAXPOOL, 3, {"inputs=1,2,3,3", "input:1,2,3,3"}},
+    {21, 3, MAXPOOL, 3, {"input=1,2,3", "input=1,2,3,3,1", "input=1,2,3,3,", "input=,1,2,3", "input=1,,3,3", "input=1,2,3,03", "input=00,2,3,3",
+                         "input=", "input=1,2,3,3 ", "input=1, 2,3,3", "input=1;2;3;3", "input=-1,2,3,3", "input=1,2,3,3\r", "input=1,2,3,3.0",
+                         "input=1,2,3,0x3", "input=1,2@,3,3", "input=1,2,3,99999999999999999999", "input=1,2,3,18446744073709551617"}}, /* the last is 1 modulo 2^64 */
+    {21, 4, MAXPOOL, 3, {"input=0,0,0,0\nkernel=0"}}, /* before 1 */
+    {21, 4, MAXPOOL, 4, {"kernel=1,1,1,2,2", "kernel=2", "kernel=2,2,2"}},
+    {21, 4, CONVOLUTION, 4, {"kernel=2,2", "kernel=2,2,2,2", "kernel=2,2,2,2,2,2"}},
+    {21, 4, TRANSPOSED, 4, {"kernel=2,2", "kernel=2,2,2,2", "kernel=2,2,2,2,2,2"}},
+    {20, 5, MAXPOOL, 5, {"stride=1,1", "dilations=1,1"}},
+    {21, 5, MAXPOOL, 5, {"strides=1", "strides=1,1,1"}},
+    {20, 6, MAXPOOL, 6, {"", "dilation=1,1"}},
+    {21, 6, MAXPOOL, 6, {"dilations=1", "dilations=1,1,1"}},
+    {20, 7, MAXPOOL, 7, {"auto-pad=valid", "pads_begin=0,0"}},
+    {22, 7, MAXPOOL, 7, {"auto_pad=", "auto_pad=EXPLICIT", "auto_pad=same", "auto_pad=0", "auto_pad=explicit\r", "auto_pad=valid ", "auto_pad=notset"}},
+    {20, 8, MAXPOOL, 8, {"pads_end=0,0", "pads=0,0"}},
+    {21, 8, MAXPOOL, 8, {"pads_begin=", "pads_begin=0", "pads_begin=0,-1"}},
+    {20, 9, MAXPOOL, 9, {"pads_begin=0,0"}},
+    {21, 9, MAXPOOL, 9, {"pads_end=0", "pads_end=0,-0", "pads_end=0,0,0"}},
+    {21, 10, MAXPOOL, 10, {"output_padding=0", "output_padding=x,1"}},
+    {23, 10, MAXPOOL, 10, {"output_padding=1,0", "output_padding=0,1"}},
+    {21, 10, CONVOLUTION, 10, {"output_padding=1,4294967296", "output_padding=1"}}, /* before 23 */
+    {23, 10, CONVOLUTION, 10, {"output_padding=0,15", "output_padding=4294967295,0"}},
+    {20, 11, MAXPOOL, 11, {"Rounding=floor"}},
+    {22, 11, MAXPOOL, 11, {"rounding=", "rounding=floor ", "rounding=FLOOR"}},
+    {22, 11, CONVOLUTION, 11, {"rounding=round"}},
+    {23, 11, CONVOLUTION, 11, {"rounding=ceil"}},
+    {23, 11, TRANSPOSED, 11, {"rounding=ceil"}},
+    {20, 12, MAXPOOL, 12, {"axes=2", ""}},
+    {21, 12, MAXPOOL, 12, {"axis=10", "axis=-10", "axis=-0", "axis=", "axis=-", "axis=00", "axis=+1", "axis=2 ", "axis=2@", "axis=2\r", "axis=x"}},
+    {21, 12, CONVOLUTION, 12, {"axis=10", "axis=-0"}},
+    {23, 12, CONVOLUTION, 12, {"axis=1", "axis=-1"}},
+    {23, 12, TRANSPOSED, 12, {"axis=9", "axis=-9"}},
+    {20, 13, MAXPOOL, 13, {"\n", "@", " ", "axis=0\n", "\r\n"}},
+    {20, 13, CONVOLUTION, 13, {"\n", "@"}},
+    {20, 13, TRANSPOSED, 13, {"\n", "op=transposed\n"}},
+};
+
+/* The sheet of base(op, 2) with one line replaced. */
+static size_t edit_sheet(char *to, enum op op, uint32_t line, const char *by) {
+    char text[KOZA_SHEET_MAX * 2];
+    layer l = base(op, 2);
+    text[write_layer(text, &l)] = 0;
+    size_t n = line == 0 ? (size_t)sprintf(to, "%s", by) : 0;
+    uint32_t at = 1;
+    for (char *from = strtok(text, "\n"); line > 0 && from; from = strtok(NULL, "\n"))
+        n += (size_t)sprintf(to + n, "%s\n", at++ == line ? by : from);
+    if (line == 13)
+        n += (size_t)sprintf(to + n, "%s", by);
+    for (size_t i = 0; i < n; i++)
+        to[i] = to[i] == '@' ? 0 : to[i];
+    return n;
+}
+
+static void try_sheets(void) {
+    char text[KOZA_SHEET_MAX * 2];
+    for (size_t i = 0; i < COUNT(SHEETS); i++)
+        for (const char *const *by = SHEETS[i].texts; *by; by++) {
+            about = say("%s, another line %u", OP_NAMES[SHEETS[i].op], SHEETS[i].line);
+            set_sheet(text, edit_sheet(text, SHEETS[i].op, SHEETS[i].line, *by));
+            try_refused_sheet(SHEETS[i].number, SHEETS[i].at);
+        }
+}
+
+/* A sheet that is cut short lacks a line end, or the whole line: 20 at the line where the cut is. */
+static void try_cut_sheets(enum op op, int axes) {
+    char text[KOZA_SHEET_MAX * 2];
+    layer l = base(op, axes);
+    size_t len = write_layer(text, &l);
+    uint32_t line = 1;
+    for (size_t cut = 0; cut < len; cut++) {
+        about = say("%s, axes %d, the first %zu bytes", OP_NAMES[op], axes, cut);
+        set_sheet(text, cut);
+        try_refused_sheet(20, line);
+        line += text[cut] == '\n';
+    }
+}
+
+/* All lines end in CR and LF: the word of line 1 is unknown. */
+static void try_crlf(enum op op) {
+    char text[KOZA_SHEET_MAX * 2], crlf[KOZA_SHEET_MAX * 2];
+    layer l = base(op, 2);
+    size_t len = write_layer(text, &l), n = 0;
+    for (size_t i = 0; i < len; i++) {
+        if (text[i] == '\n')
+            crlf[n++] = '\r';
+        crlf[n++] = text[i];
+    }
+    about = say("%s, CR LF", OP_NAMES[op]);
+    set_sheet(crlf, n);
+    try_refused_sheet(22, 1);
+}
+
+/* ---- sheets written back */
+
+/* In a buffer with `room` bytes: 24 where the sheet is longer, else the sheet's own bytes and nothing beyond them. */
+static void try_rewrite(size_t room) {
+    uint8_t *buffer = lend(OUTPUT, room);
+    remember(OUTPUT);
+    koza_written w = koza_rewrite(sheet, sheet_len, buffer, room);
+    int fits = room >= sheet_len;
+    const char *memory = kept(OUTPUT) ? "memory kept" : "buffer changed";
+    if (fits) {
+        memcpy(lent[OUTPUT].copy_end - room, sheet, sheet_len);
+        memory = kept(OUTPUT) ? "the sheet written, nothing beyond" : "not the sheet, or bytes beyond it changed";
+    }
+    if (!kept(SHEET))
+        memory = "sheet changed";
+    words expected = say("number 24, line 0, length 0; memory kept");
+    if (fits)
+        expected = say("number 0, line 0, length %zu; the sheet written, nothing beyond", sheet_len);
+    compare("koza_rewrite", expected, say("number %u, line %u, length %zu; %s", w.number, w.line, w.length, memory));
+}
+
+static void try_rewrites(const layer *l) {
+    char text[KOZA_SHEET_MAX * 2];
+    set_sheet(text, write_layer(text, l));
+    about = say("%s, axes %d, a sheet of %zu bytes", OP_NAMES[l->op], l->axes, sheet_len);
+    const size_t rooms[] = {0, 1, sheet_len - 1, sheet_len, sheet_len + 1, sheet_len + 100, KOZA_SHEET_MAX};
+    for (size_t i = 0; i < COUNT(rooms); i++)
+        try_rewrite(rooms[i]);
+}
+
+/* The longest sheet that the reader takes: every number 4,294,967,295 except where a default is asked for. */
+static void try_longest(enum op op) {
+    layer l = base(op, 2);
+    for (int f = N; f < FIELDS; f++)
+        l.field[f] = op != TRANSPOSED && (f == PY || f == PX) ? 0 : LARGEST;
+    l.auto_pad = "same_upper";
+    l.axis = op == MAXPOOL ? -9 : 0;
+    try_rewrites(&l);
+    printf("longest sheet of %s: %zu bytes\n", OP_NAMES[op], sheet_len);
+    about = say("the longest sheet of %s", OP_NAMES[op]);
+    check("KOZA_SHEET_MAX", say("room for it"), say(sheet_len <= KOZA_SHEET_MAX ? "room for it" : "%zu bytes are more", sheet_len));
+    call_shape((koza_shape_answer){.number = 1});
+    call_lengths((koza_lengths_answer){.number = 1});
+}
+
+/* ---- planes */
+
+/* The tensor's memory may not even be read: no element is looked at. */
+static const struct {
+    uint64_t len;
+    uint32_t n, c, y, x, image, channel;
+    size_t start, length;
+} PICKED[] = {
+    {120, 2, 3, 4, 5, 0, 0, 0, 20}, {120, 2, 3, 4, 5, 0, 2, 40, 20}, {120, 2, 3, 4, 5, 1, 0, 60, 20}, {120, 2, 3, 4, 5, 1, 2, 100, 20},
+    {120, 2, 3, 4, 5, 2, 0, 0, 0}, {120, 2, 3, 4, 5, 0, 3, 0, 0}, {120, 2, 3, 4, 5, LARGEST, 0, 0, 0}, {120, 2, 3, 4, 5, 0, LARGEST, 0, 0},
+    {119, 2, 3, 4, 5, 0, 0, 0, 0}, {121, 2, 3, 4, 5, 0, 0, 0, 0}, {0, 2, 3, 4, 5, 0, 0, 0, 0}, {LARGEST + 121, 2, 3, 4, 5, 0, 0, 0, 0},
+    {0, 0, 3, 4, 5, 0, 0, 0, 0}, {0, 2, 0, 4, 5, 0, 0, 0, 0}, {0, 2, 3, 0, 5, 0, 0, 0, 0}, {0, 2, 3, 4, 0, 0, 0, 0, 0}, {0, 0, 0, 0, 0, 0, 0, 0, 0},
+    {1, 1, 1, 1, 1, 0, 0, 0, 1}, {16, 16, 1, 1, 1, 15, 0, 15, 1}, {1024, 1, 1024, 1, 1, 0, 1023, 1023, 1}, {4096, 1, 1, 4096, 1, 0, 0, 0, 4096},
+    {4096, 1, 1, 1, 4096, 0, 0, 0, 4096}, {16, 16, 1, 1, 1, 16, 0, 0, 0}, {1024, 1, 1024, 1, 1, 0, 1024, 0, 0},
+    {17, 17, 1, 1, 1, 0, 0, 0, 0}, {1025, 1, 1025, 1, 1, 0, 0, 0, 0}, {4097, 1, 1, 4097, 1, 0, 0, 0, 0}, {4097, 1, 1, 1, 4097, 0, 0, 0, 0},
+    {LARGEST, LARGEST, 1, 1, 1, 0, 0, 0, 0}, {LARGEST, 1, LARGEST, 1, 1, 0, 0, 0, 0}, {LARGEST, 1, 1, LARGEST, 1, 0, 0, 0, 0},
+    {LARGEST, 1, 1, 1, LARGEST, 0, 0, 0, 0},
+    {1, LARGEST, LARGEST, 1, 1, 0, 0, 0, 0},               /* 1 modulo 2^32 */
+    {1, LARGEST, LARGEST, LARGEST, LARGEST, 0, 0, 0, 0},
+    {0, 65536, 65536, 65536, 65536, 0, 0, 0, 0},           /* 0 modulo 2^64 */
+    {0, 16, 1024, 4096, 64, 0, 0, 0, 0},                   /* 2^32 elements, 0 modulo 2^32 */
+    {1 << 26, 16, 1024, 4096, 65, 0, 0, 0, 0},             /* 2^32 + 2^26 elements */
+    {LARGEST + 1, 16, 1024, 4096, 64, 15, 1023, 16383 * (UINT64_C(1) << 18), 1 << 18},
+    {UINT64_C(1) << 38, 16, 1024, 4096, 4096, 15, 1023, 16383 * (UINT64_C(1) << 24), 1 << 24}, /* the picker has no limit of elements */
+    {UINT64_C(1) << 38, 16, 1024, 4096, 4096, 16, 1023, 0, 0},
+    {0, 16, 1024, 4096, 4096, 0, 0, 0, 0},
+};
+
+static void try_planes(void) {
+    for (size_t i = 0; i < COUNT(PICKED); i++) {
+        size_t bytes = PICKED[i].len * sizeof(float);
+        float *tensor = bytes == 0 ? NULL : reserve(bytes, PROT_NONE);
+        if (bytes > 0 && !tensor) {
+            not_tried++;
+            continue;
+        }
+        about = say("%" PRIu64 " elements, [%u, %u, %u, %u], image %u, channel %u", PICKED[i].len, PICKED[i].n, PICKED[i].c, PICKED[i].y, PICKED[i].x,
+                    PICKED[i].image, PICKED[i].channel);
+        koza_part p = koza_plane(tensor, PICKED[i].len, PICKED[i].n, PICKED[i].c, PICKED[i].y, PICKED[i].x, PICKED[i].image, PICKED[i].channel);
+        compare("koza_plane", say("start %zu, length %zu", PICKED[i].start, PICKED[i].length), say("start %zu, length %zu", p.start, p.length));
+        if (tensor)
+            munmap(tensor, bytes);
+    }
+}
+
+/* ---- peaks */
+
+static const struct {
+    size_t len, width;
+    float plane[6];
+    koza_peak_answer expected;
+} PEAKS[] = {
+    {1, 1, {2}, {.value = 2, .row = 0, .column = 0}},
+    {6, 3, {1, 0, 2, 0, 2, 0}, {.value = 2, .row = 0, .column = 2}}, /* the first of two */
+    {6, 2, {1, 0, 1, 2, 2, 0}, {.value = 2, .row = 1, .column = 1}},
+    {6, 6, {0, 0, 0, 0, 0, 1}, {.value = 1, .row = 0, .column = 5}},
+    {6, 1, {0, 0, 0, 0, 0, 1}, {.value = 1, .row = 5, .column = 0}},
+    {3, 3, {-3, -1, -2}, {.value = -1, .row = 0, .column = 1}},
+    {2, 2, {-0.0f, 0}, {.value = -0.0f, .row = 0, .column = 0}}, /* -0 equals +0 and keeps its bits */
+    {2, 2, {0, -0.0f}, {.value = 0, .row = 0, .column = 0}},
+    {2, 2, {-0x1p40f, 0x1p40f}, {.value = 0x1p40f, .row = 0, .column = 1}},
+    {1, 1, {-0x1p40f}, {.value = -0x1p40f, .row = 0, .column = 0}},
+    {0, 0, {0}, {.number = 8}}, {0, 1, {0}, {.number = 8}}, {0, SIZE_MAX, {0}, {.number = 8}}, {2, 0, {0}, {.number = 8}},
+    {5, 2, {0}, {.number = 8}}, {2, 3, {0}, {.number = 8}}, {2, SIZE_MAX, {0}, {.number = 8}}, {1, LARGEST + 2, {0}, {.number = 8}},
+    {2, 3, {NAN, NAN}, {.number = 8}}, {2, 0, {NAN, NAN}, {.number = 8}},
+    {6, 3, {1, 0, NAN, 0, INFINITY, 0}, {.number = 9, .place = 2}},
+};
+
+static void call_peak(const float *elements, size_t len, size_t width, koza_peak_answer expected) {
+    float *plane = lend(INPUT, len * sizeof *plane);
+    if (len > 0)
+        memcpy(plane, elements, len * sizeof *plane);
+    remember(INPUT);
+    koza_peak_answer p = koza_peak(plane, len, width);
+    const char *format = "number %u, place %zu, value %a, row %zu, column %zu; %s";
+    compare("koza_peak", say(format, expected.number, expected.place, expected.value, expected.row, expected.column, "memory kept"),
+            say(format, p.number, p.place, p.value, p.row, p.column, kept(INPUT) ? "memory kept" : "plane changed"));
+}
+
+static void try_peaks(void) {
+    for (size_t i = 0; i < COUNT(PEAKS); i++) {
+        about = say("peak %zu of the table", i);
+        call_peak(PEAKS[i].plane, PEAKS[i].len, PEAKS[i].width, PEAKS[i].expected);
+    }
+    /* Each bad element in each place. */
+    for (size_t e = 0; e < COUNT(ELEMENTS); e++)
+        for (size_t place = 0; place < 6 && ELEMENTS[e].bad; place++) {
+            float plane[6] = {1, 1, 1, 1, 1, 1};
+            memcpy(&plane[place], &ELEMENTS[e].bits, sizeof plane[place]);
+            about = say("%s at place %zu of 6", ELEMENTS[e].what, place);
+            call_peak(plane, 6, 3, (koza_peak_answer){.number = 9, .place = place});
+        }
+}
+
+/* ---- what stands in the header alone */
+
+static void try_texts(void) {
+    static const uint32_t numbers[] = {0, 1, 2, 3, 4, 5, 6, 7, 8, 9, 20, 21, 22, 23, 24}, others[] = {10, 19, 25, UINT32_MAX};
+    const char *unknown = koza_text(UINT32_MAX);
+    for (size_t i = 0; i < COUNT(numbers); i++) {
+        int own = strcmp(koza_text(numbers[i]), unknown) != 0;
+        for (size_t k = 0; k < i; k++)
+            own = own && strcmp(koza_text(numbers[i]), koza_text(numbers[k])) != 0;
+        about = say("number %u", numbers[i]);
+        compare("koza_text", say("a text of its own"), say(own ? "a text of its own" : "the text of another number"));
+    }
+    for (size_t i = 0; i < COUNT(others); i++) {
+        about = say("number %u", others[i]);
+        compare("koza_text", say("%s", unknown), say("%s", koza_text(others[i])));
+    }
+}
+
+/* Bytes from a place on, of one buffer and of another. */
+static const struct {
+    const char *what;
+    uintptr_t a;
+    size_t a_bytes;
+    uintptr_t b;
+    size_t b_bytes;
+    int overlap;
+} OVERLAPS[] = {
+    {"touching", 64, 8, 72, 8, 0},
+    {"one byte in common", 64, 9, 72, 8, 1},
+    {"overlapping", 64, 8, 68, 8, 1},
+    {"nested", 64, 32, 72, 8, 1},
+    {"nested, same end", 64, 32, 88, 8, 1},
+    {"equal", 64, 8, 64, 8, 1},
+    {"same start", 64, 1, 64, 8, 1},
+    {"apart", 64, 8, 80, 8, 0},
+    {"an empty one inside", 64, 8, 66, 0, 0},
+    {"an empty one at the start", 64, 8, 64, 0, 0},
+    {"two empty ones", 64, 0, 64, 0, 0},
+    {"null and empty", 0, 0, 64, 8, 0},
+    {"the last byte of all", 1, SIZE_MAX, UINTPTR_MAX, 1, 1},
+    {"all but the last byte", 0, SIZE_MAX, UINTPTR_MAX, 1, 0},
+    {"far apart", 8, 8, UINTPTR_MAX - 8, 8, 0},
+};
+
+static void try_overlaps(void) {
+    for (size_t i = 0; i < COUNT(OVERLAPS); i++) {
+        const void *a = (const void *)OVERLAPS[i].a, *b = (const void *)OVERLAPS[i].b;
+        size_t a_bytes = OVERLAPS[i].a_bytes, b_bytes = OVERLAPS[i].b_bytes;
+        about = say("%s", OVERLAPS[i].what);
+        compare("koza_overlap", say("%d", OVERLAPS[i].overlap), say("%d", koza_overlap(a, a_bytes, b, b_bytes)));
+        compare("koza_overlap", say("%d", OVERLAPS[i].overlap), say("%d", koza_overlap(b, b_bytes, a, a_bytes)));
+    }
+}
+
+/* Whether this machine computes otherwise in the mode that is set: an emulator may keep to the default one, and then no answer can be asked for. */
+static int mode_shows(void) {
+    volatile float one = 1.0f, minus_one = -1.0f, three = 3.0f, least_normal = 0x1p-126f, least = 0x1p-149f, half = 0.5f;
+    volatile float third = one / three, minus_third = minus_one / three, subnormal = least_normal * half;
+    return third != 0x1.555556p-2f || minus_third != -0x1.555556p-2f || subnormal == 0.0f || !(least > 0.0f);
+}
+
+static void try_float_mode(const char *name, int rounding, unsigned control) {
+    unsigned before = _mm_getcsr();
+    fesetround(rounding);
+    _mm_setcsr(_mm_getcsr() | control);
+    int shows = mode_shows(), ok = koza_float_mode_ok();
+    fesetround(FE_TONEAREST);
+    _mm_setcsr(before);
+    int default_mode = rounding == FE_TONEAREST && control == 0;
+    about = say("%s", name);
+    if (!default_mode && !shows)
+        not_tried++;
+    else
+        compare("koza_float_mode_ok", say("%d", default_mode), say("%d", ok));
+}
+
+static void try_float_modes(void) {
+    static const struct {
+        const char *name;
+        int rounding;
+        unsigned control; /* bits of MXCSR: 15 flush to zero, 6 denormals are zeros */
+    } FLOAT_MODES[] = {
+        {"the default mode", FE_TONEAREST, 0},
+        {"upward", FE_UPWARD, 0},
+        {"downward", FE_DOWNWARD, 0},
+        {"toward zero", FE_TOWARDZERO, 0},
+        {"flush to zero", FE_TONEAREST, 0x8000},
+        {"denormals are zeros", FE_TONEAREST, 0x40},
+        {"flush to zero, denormals are zeros", FE_TONEAREST, 0x8040},
+        {"the default mode again", FE_TONEAREST, 0},
+    };
+    for (size_t i = 0; i < COUNT(FLOAT_MODES); i++)
+        try_float_mode(FLOAT_MODES[i].name, FLOAT_MODES[i].rounding, FLOAT_MODES[i].control);
+}
+
+/* ---- all of it */
+
+/* Nothing lent at all, by null pointers and by others. */
+static void try_nothing(enum op op) {
+    char text[KOZA_SHEET_MAX * 2];
+    layer l = base(op, 2);
+    for (null_where_empty = 0; null_where_empty < 2; null_where_empty++) {
+        about = say("%s, no bytes, null %d", OP_NAMES[op], null_where_empty);
+        set_sheet("", 0);
+        call_operator(op, (lengths){0, 0, 0, 0}, NULL, 0, (koza_answer){.number = 20, .line = 1});
+        try_refused_sheet(20, 1);
+        about = say("%s, no element, null %d", OP_NAMES[op], null_where_empty);
+        set_sheet(text, write_layer(text, &l));
+        call_operator(op, (lengths){0, 0, 0, 0}, NULL, 0, (koza_answer){.number = 8});
+        try_rewrite(0);
+        call_peak(NULL, 0, 1, (koza_peak_answer){.number = 8});
+    }
+    null_where_empty = 1;
+}
+
+static void try_operator(enum op op, int axes) {
+    for (size_t m = 0; m < COUNT(MODES); m++) {
+        layer l = base(op, axes);
+        l.auto_pad = MODES[m];
+        try_limits(l);
+        try_rewrites(&l);
+    }
+    try_other_operators(op, axes);
+    try_lengths(op, axes);
+    try_elements(op, axes);
+    try_cut_sheets(op, axes);
+}
+
+int main(void) {
+    make_memory();
+    about = say("the archive's beside the header's");
+    compare("koza_version", say("%d", KOZA_VERSION), say("%u", koza_version()));
+    for (int op = 0; op < OPS; op++) {
+        try_nothing((enum op)op);
+        for (int axes = 1; axes <= 2; axes++)
+            try_operator((enum op)op, axes);
+        for (int b = INPUT; b < BUFFERS; b++)
+            try_long_buffer((enum op)op, b);
+        try_crlf((enum op)op);
+        try_longest((enum op)op);
+    }
+    try_axis(1);
+    try_axis(2);
+    try_combined();
+    try_planes_of_outputs(CONVOLUTION);
+    try_planes_of_outputs(TRANSPOSED);
+    for (size_t i = 0; i < COUNT(RESULTS); i++)
+        try_result(i);
+    try_sheets();
+    set_sheet("", 0);
+    try_planes();
+    try_peaks();
+    try_texts();
+    try_overlaps();
+    try_float_modes();
+    if (not_tried > 0)
+        printf("%lu cases not tried: no address space for them, or float modes that this machine does not follow\n", not_tried);
+    printf("%lu calls, %lu differ\n", calls, differ);
+    return differ != 0;
+}

@@ -1,0 +1,366 @@
+/* Measures how much stack each function of the archive takes, its return address included. Each call runs on a stack of its own that is painted
+ * before; afterwards the lowest byte that was touched is looked for. An empty function with the same parameters tells where the call begins.
+ * It prints the most for each function and ends with status 1 if one takes 2,560 bytes or more. A function with an array of 4,096 bytes is measured
+ * too, which shows that the measuring sees what it should. */
+#define _GNU_SOURCE
+#include "kozamyure.h"
+#include <inttypes.h>
+#include <math.h>
+#include <stdio.h>
+#include <stdlib.h>
+#include <string.h>
+#include <sys/mman.h>
+#include <ucontext.h>
+
+#define COUNT(table) (sizeof(table) / sizeof(table)[0])
+enum { LIMIT = 2560, CONTROL_BYTES = 4096 };
+
+/* ---- the call at hand: its arguments, its number */
+
+enum function { VERSION, SHAPE, LENGTHS, CONVOLUTION, TRANSPOSED, MAXPOOL, REWRITE, PLANE, PEAK, CONTROL, FUNCTIONS };
+static const char *const NAMES[FUNCTIONS] = {"koza_version", "koza_shape", "koza_lengths", "koza_convolution", "koza_transposed",
+                                             "koza_maxpool", "koza_rewrite", "koza_plane", "koza_peak", "an array of 4,096 bytes"};
+
+enum { ELEMENTS = 1 << 18 };
+static float input[ELEMENTS], kernel[ELEMENTS], output[ELEMENTS];
+static int64_t indices[ELEMENTS];
+
+static struct {
+    enum function function;
+    int real; /* or the empty function in its place */
+    uint8_t sheet[2 * KOZA_SHEET_MAX], buffer[2 * KOZA_SHEET_MAX];
+    size_t sheet_len, buffer_len, input_len, kernel_len, output_len, indices_len, width;
+    uint32_t sizes[4], image, channel;
+    uint32_t number;
+} at;
+
+/* ---- empty functions, which take what the others take and tell where their return address ends */
+
+static const unsigned char *call_begins;
+#define TELL (call_begins = (const unsigned char *)__builtin_frame_address(0) + 16) /* above the frame pointer and the return address */
+
+#pragma GCC diagnostic ignored "-Wunused-parameter"
+static uint32_t no_version(void) {
+    TELL;
+    return 0;
+}
+static koza_shape_answer no_shape(const uint8_t *sheet, size_t sheet_len) {
+    TELL;
+    return (koza_shape_answer){0};
+}
+static koza_lengths_answer no_lengths(const uint8_t *sheet, size_t sheet_len) {
+    TELL;
+    return (koza_lengths_answer){0};
+}
+static koza_answer no_sums(const uint8_t *sheet, size_t sheet_len, const float *in, size_t in_len, const float *weights, size_t weights_len,
+                           float *out, size_t out_len) {
+    TELL;
+    return (koza_answer){0};
+}
+static koza_answer no_maxpool(const uint8_t *sheet, size_t sheet_len, const float *in, size_t in_len, float *values, size_t values_len,
+                              int64_t *places, size_t places_len) {
+    TELL;
+    return (koza_answer){0};
+}
+static koza_written no_rewrite(const uint8_t *sheet, size_t sheet_len, uint8_t *buffer, size_t buffer_len) {
+    TELL;
+    return (koza_written){0};
+}
+static koza_part no_plane(const float *tensor, size_t tensor_len, uint32_t n, uint32_t c, uint32_t y, uint32_t x, uint32_t image, uint32_t channel) {
+    TELL;
+    return (koza_part){0};
+}
+static koza_peak_answer no_peak(const float *plane, size_t plane_len, size_t width) {
+    TELL;
+    return (koza_peak_answer){0};
+}
+
+/* ---- the function that shows the measuring */
+
+static uint32_t no_control(void) {
+    TELL;
+    return 0;
+}
+static uint32_t control(void) {
+    volatile unsigned char array[CONTROL_BYTES];
+    for (size_t i = 0; i < CONTROL_BYTES; i++)
+        array[i] = (unsigned char)i;
+    return array[0];
+}
+
+/* Volatile, so that each call is made as it stands. */
+static uint32_t (*volatile version[2])(void) = {no_version, koza_version};
+static koza_shape_answer (*volatile shape[2])(const uint8_t *, size_t) = {no_shape, koza_shape};
+static koza_lengths_answer (*volatile lengths[2])(const uint8_t *, size_t) = {no_lengths, koza_lengths};
+static koza_answer (*volatile convolution[2])(const uint8_t *, size_t, const float *, size_t, const float *, size_t, float *,
+                                              size_t) = {no_sums, koza_convolution};
+static koza_answer (*volatile transposed[2])(const uint8_t *, size_t, const float *, size_t, const float *, size_t, float *,
+                                             size_t) = {no_sums, koza_transposed};
+static koza_answer (*volatile maxpool[2])(const uint8_t *, size_t, const float *, size_t, float *, size_t, int64_t *,
+                                          size_t) = {no_maxpool, koza_maxpool};
+static koza_written (*volatile rewrite[2])(const uint8_t *, size_t, uint8_t *, size_t) = {no_rewrite, koza_rewrite};
+static koza_part (*volatile plane[2])(const float *, size_t, uint32_t, uint32_t, uint32_t, uint32_t, uint32_t, uint32_t) = {no_plane, koza_plane};
+static koza_peak_answer (*volatile peak[2])(const float *, size_t, size_t) = {no_peak, koza_peak};
+static uint32_t (*volatile controls[2])(void) = {no_control, control};
+
+static void make_call(void) {
+    const uint8_t *s = at.sheet;
+    size_t n = at.sheet_len;
+    int r = at.real;
+    switch (at.function) {
+    case VERSION: version[r](); break;
+    case SHAPE: at.number = shape[r](s, n).number; break;
+    case LENGTHS: at.number = lengths[r](s, n).number; break;
+    case CONVOLUTION: at.number = convolution[r](s, n, input, at.input_len, kernel, at.kernel_len, output, at.output_len).number; break;
+    case TRANSPOSED: at.number = transposed[r](s, n, input, at.input_len, kernel, at.kernel_len, output, at.output_len).number; break;
+    case MAXPOOL: at.number = maxpool[r](s, n, input, at.input_len, output, at.output_len, indices, at.indices_len).number; break;
+    case REWRITE: at.number = rewrite[r](s, n, at.buffer, at.buffer_len).number; break;
+    case PLANE:
+        at.number = plane[r](input, at.input_len, at.sizes[0], at.sizes[1], at.sizes[2], at.sizes[3], at.image, at.channel).length == 0;
+        break;
+    case PEAK: at.number = peak[r](input, at.input_len, at.width).number; break;
+    default: controls[r](); break;
+    }
+}
+
+/* ---- the painted stack */
+
+enum { PAGE = 4096, STACK = 1 << 14, PAINT = 0xA5 };
+static unsigned char *stack;
+static ucontext_t here, there;
+
+/* The page below the stack must not be touched. */
+static void make_stack(void) {
+    unsigned char *p = mmap(NULL, PAGE + STACK, PROT_READ | PROT_WRITE, MAP_PRIVATE | MAP_ANONYMOUS, -1, 0);
+    if (p == MAP_FAILED || mprotect(p, PAGE, PROT_NONE) != 0) {
+        fprintf(stderr, "stack: no memory\n");
+        exit(2);
+    }
+    stack = p + PAGE;
+    memset(stack, PAINT, STACK);
+}
+
+/* Runs on the painted stack; it swaps back at the end, which goes no deeper than the call. */
+static void run(void) {
+    make_call();
+    swapcontext(&there, &here);
+}
+
+/* Makes the call and finds the lowest byte that it touched; the stack is painted again. */
+static const unsigned char *lowest_touched(enum function function, int real) {
+    at.function = function;
+    at.real = real;
+    getcontext(&there);
+    there.uc_stack.ss_sp = stack;
+    there.uc_stack.ss_size = STACK;
+    there.uc_link = NULL;
+    makecontext(&there, run, 0);
+    swapcontext(&here, &there);
+    unsigned char *p = stack;
+    while (p < stack + STACK && *p == PAINT)
+        p++;
+    memset(p, PAINT, (size_t)(stack + STACK - p));
+    return p;
+}
+
+static struct {
+    const unsigned char *begins; /* the same for all calls of a function */
+    size_t most;
+    unsigned long calls, refused;
+} measured[FUNCTIONS];
+
+static void measure(enum function function) {
+    if (!measured[function].begins) {
+        lowest_touched(function, 0);
+        measured[function].begins = call_begins;
+    }
+    size_t bytes = (size_t)(measured[function].begins - lowest_touched(function, 1));
+    measured[function].calls++;
+    measured[function].refused += at.number != 0;
+    if (bytes > measured[function].most)
+        measured[function].most = bytes;
+}
+
+/* ---- what is called */
+
+static const char *const OPS[] = {"convolution", "transposed", "maxpool"}, *const MODES[] = {"explicit", "same_upper", "same_lower", "valid"};
+static const uint32_t OUTPUTS[] = {1, 2, 5, 8, 40}, STRIDES[] = {1, 2, 3}, DILATIONS[] = {1, 2}, PADS[] = {0, 1, 9}, KERNELS[] = {1, 2, 3, 5};
+
+typedef struct {
+    int op, axes, mode;
+    uint32_t outputs, stride, dilation, pad, kernel;
+} layer;
+
+static void add_word(const char *key, const char *word) {
+    at.sheet_len += (size_t)sprintf((char *)at.sheet + at.sheet_len, "%s=%s\n", key, word);
+}
+
+/* A list that ends in a number of X and, with two axes, one of Y before it. */
+static void add_list(const char *head, int axes, uint32_t y, uint32_t x) {
+    char *to = (char *)at.sheet + at.sheet_len;
+    at.sheet_len += (size_t)(axes == 2 ? sprintf(to, "%s%" PRIu32 ",%" PRIu32 "\n", head, y, x) : sprintf(to, "%s%" PRIu32 "\n", head, x));
+}
+
+/* Rows of `outputs` outputs, where the pads leave room for them, and a few rows. */
+static void write_sheet(layer l) {
+    uint32_t need = (l.outputs - 1) * l.stride + (l.kernel - 1) * l.dilation + 1, pads = l.mode == 0 ? 2 * l.pad : 0;
+    uint32_t in = l.op == 1 ? l.outputs : l.mode == 1 || l.mode == 2 ? l.outputs * l.stride : need > pads ? need - pads : 1;
+    at.sheet_len = 0;
+    add_word("op", OPS[l.op]);
+    add_word("axes", l.axes == 1 ? "1" : "2");
+    add_list("input=2,2,", l.axes, l.kernel + 3, in);
+    add_list(l.op == 2 ? "kernel=" : "kernel=1,2,2,", l.axes, l.kernel, l.kernel);
+    add_list("strides=", l.axes, l.stride, l.stride);
+    add_list("dilations=", l.axes, l.dilation, l.dilation);
+    add_word("auto_pad", MODES[l.mode]);
+    add_list("pads_begin=", l.axes, l.pad, l.pad);
+    add_list("pads_end=", l.axes, l.pad, l.pad);
+    add_list("output_padding=", l.axes, 0, 0);
+    add_word("rounding", "floor");
+    add_word("axis", "0");
+}
+
+static void call_operator(int op) {
+    measure((enum function)(CONVOLUTION + op));
+}
+
+/* The sheet at hand, by every function that reads one; where it is accepted also with a bad element in input or kernel, and with a length too short. */
+static void call_with_sheet(int op) {
+    koza_lengths_answer n = koza_lengths(at.sheet, at.sheet_len);
+    if (n.input > ELEMENTS || n.kernel > ELEMENTS || n.output > ELEMENTS) {
+        fprintf(stderr, "stack: a layer with more than %d elements\n", ELEMENTS);
+        exit(2);
+    }
+    at.input_len = n.input, at.kernel_len = n.kernel, at.output_len = at.indices_len = n.output;
+    measure(SHAPE);
+    measure(LENGTHS);
+    call_operator(op);
+    call_operator((op + 1) % 3);
+    if (n.number != 0)
+        return;
+    input[n.input - 1] = NAN;
+    call_operator(op);
+    input[n.input - 1] = 1;
+    kernel[0] = NAN;
+    call_operator(op);
+    kernel[0] = 1;
+    at.output_len--;
+    call_operator(op);
+}
+
+static void call_rewrite(void) {
+    for (size_t room = at.sheet_len - 1; room <= at.sheet_len + 1; room++) {
+        at.buffer_len = room;
+        measure(REWRITE);
+    }
+}
+
+static void call_layers(int op, int axes) {
+    layer l = {.op = op, .axes = axes};
+    for (size_t i = 0; i < COUNT(OUTPUTS) * COUNT(STRIDES) * COUNT(DILATIONS) * COUNT(PADS) * COUNT(KERNELS) * COUNT(MODES); i++) {
+        size_t rest = i;
+        l.outputs = OUTPUTS[rest % COUNT(OUTPUTS)], rest /= COUNT(OUTPUTS);
+        l.stride = STRIDES[rest % COUNT(STRIDES)], rest /= COUNT(STRIDES);
+        l.dilation = DILATIONS[rest % COUNT(DILATIONS)], rest /= COUNT(DILATIONS);
+        l.pad = PADS[rest % COUNT(PADS)], rest /= COUNT(PADS);
+        l.kernel = KERNELS[rest % COUNT(KERNELS)], rest /= COUNT(KERNELS);
+        l.mode = (int)rest;
+        write_sheet(l);
+        call_with_sheet(op);
+        call_rewrite();
+    }
+}
+
+/* Each byte of a sheet in turn is another one, or the sheet ends before it. */
+static void call_bad_sheets(int op, int axes) {
+    const uint8_t others[] = {0, '\n', ',', '-', '0', '9', 'x'};
+    write_sheet((layer){op, axes, 0, 5, 1, 1, 1, 3});
+    for (size_t i = 0, len = at.sheet_len; i < len; i++) {
+        uint8_t byte = at.sheet[i];
+        for (size_t o = 0; o < COUNT(others); o++) {
+            at.sheet[i] = others[o];
+            call_with_sheet(op);
+            call_rewrite();
+        }
+        at.sheet[i] = byte;
+        at.sheet_len = i;
+        call_with_sheet(op);
+        at.buffer_len = KOZA_SHEET_MAX;
+        measure(REWRITE);
+        at.sheet_len = len;
+    }
+}
+
+/* The longest sheet: numbers of ten digits. */
+static void call_longest_sheet(void) {
+#define MAX "4294967295"
+    at.sheet_len = 0;
+    add_word("op", "transposed");
+    add_word("axes", "2");
+    add_list("input=" MAX "," MAX ",", 2, UINT32_MAX, UINT32_MAX);
+    add_list("kernel=" MAX "," MAX "," MAX ",", 2, UINT32_MAX, UINT32_MAX);
+    add_list("strides=", 2, UINT32_MAX, UINT32_MAX);
+    add_list("dilations=", 2, UINT32_MAX, UINT32_MAX);
+    add_word("auto_pad", "same_upper");
+    add_list("pads_begin=", 2, UINT32_MAX, UINT32_MAX);
+    add_list("pads_end=", 2, UINT32_MAX, UINT32_MAX);
+    add_list("output_padding=", 2, UINT32_MAX, UINT32_MAX);
+    add_word("rounding", "floor");
+    add_word("axis", "0");
+    call_with_sheet(1);
+    call_rewrite();
+}
+
+static void call_planes(void) {
+    const uint32_t sizes[][4] = {{2, 3, 4, 5}, {0, 3, 4, 5}, {2, 3, 4, 4097}, {1, 1, 1, 1}, {16, 4, 8, 8}, {17, 1, 1, 1}};
+    for (size_t i = 0; i < COUNT(sizes); i++)
+        for (at.image = 0; at.image < 3; at.image++) {
+            at.channel = at.image;
+            memcpy(at.sizes, sizes[i], sizeof at.sizes);
+            at.input_len = (size_t)sizes[i][0] * sizes[i][1] * sizes[i][2] * sizes[i][3];
+            measure(PLANE);
+        }
+}
+
+static void call_peaks(void) {
+    for (at.input_len = 0; at.input_len < 50; at.input_len++)
+        for (at.width = 0; at.width < 9; at.width++) {
+            input[at.input_len / 2] = 2;
+            measure(PEAK);
+            input[at.input_len / 2] = NAN;
+            measure(PEAK);
+            input[at.input_len / 2] = 1;
+        }
+}
+
+/* ---- all of it */
+
+static int report(void) {
+    int failed = 0;
+    for (int f = 0; f < CONTROL; f++) {
+        printf("%-17s %5zu bytes at most, %lu calls, %lu of them refused\n", NAMES[f], measured[f].most, measured[f].calls, measured[f].refused);
+        if (measured[f].most >= LIMIT)
+            failed = printf("%s takes %d bytes or more\n", NAMES[f], LIMIT);
+    }
+    printf("%s: measured as %zu\n", NAMES[CONTROL], measured[CONTROL].most);
+    if (measured[CONTROL].most < CONTROL_BYTES || measured[CONTROL].most > CONTROL_BYTES + 256)
+        failed = printf("the measuring is wrong\n");
+    return failed != 0;
+}
+
+int main(void) {
+    make_stack();
+    for (size_t i = 0; i < ELEMENTS; i++)
+        input[i] = kernel[i] = 1;
+    measure(CONTROL);
+    measure(VERSION);
+    for (int op = 0; op < 3; op++)
+        for (int axes = 1; axes <= 2; axes++) {
+            call_layers(op, axes);
+            call_bad_sheets(op, axes);
+        }
+    call_longest_sheet();
+    call_planes();
+    call_peaks();
+    return report();
+}
