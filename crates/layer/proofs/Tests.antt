@@ -42,6 +42,10 @@ pub or-false : (a : Bool) → a || false ≡ a
 or-false true = refl
 or-false false = refl
 
+pub or-assoc : (a b c : Bool) → (a || b) || c ≡ a || (b || c)
+or-assoc true b c = refl
+or-assoc false b c = refl
+
 pub and-true : (a : Bool) → a && true ≡ a
 and-true true = refl
 and-true false = refl

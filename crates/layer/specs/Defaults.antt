@@ -13,6 +13,7 @@ use Rattle.layer.specs.declared.Axis.{Axis}
 use Rattle.layer.specs.declared.Layer.{Layer}
 use Rattle.layer.specs.Kinds.{sameRounding}
 
+-- a spatial axis with each field at its default
 abbrev pub defaultAxis : Axis
 defaultAxis = record { input = 1; kernel = 1; stride = 1; dilation = 1; «pad_begin» = 0; «pad_end» = 0; «output_padding» = 0 }
 
@@ -26,8 +27,8 @@ autoPadDefault = Explicit
 abbrev pub roundingDefault : Rounding
 roundingDefault = Floor
 
-abbrev pub axisDefault : ℤ
-axisDefault = pos 0
+abbrev pub axisAttributeDefault : ℤ
+axisAttributeDefault = pos 0
 
 abbrev pub defaultLayer : Op → ℕ → Layer
 defaultLayer op axes =
@@ -43,12 +44,12 @@ defaultLayer op axes =
       x = defaultAxis;
       «auto_pad» = autoPadDefault;
       rounding = roundingDefault;
-      axis = axisDefault;
+      axis = axisAttributeDefault;
     }
 
--- whether pooling's rounding and axis are at their defaults, as they are where no pooling uses them
+-- whether pooling's rounding and its axis attribute, the `axis` of a sheet, are at their defaults, as they are where no pooling uses them
 abbrev pub isDefaultRounding : Rounding → Bool
 isDefaultRounding r = sameRounding r roundingDefault
 
-abbrev pub isDefaultAxis : ℤ → Bool
-isDefaultAxis z = leZ axisDefault z && leZ z axisDefault
+abbrev pub isDefaultAxisAttribute : ℤ → Bool
+isDefaultAxisAttribute z = leZ axisAttributeDefault z && leZ z axisAttributeDefault

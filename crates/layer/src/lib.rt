@@ -2,7 +2,7 @@
 ghost use mathlib.Core.Path.{_≡_};
 ghost use Rattle.layer.specs.Kinds.{isPool, isTransposed, isConvolution, sameOp, isExplicit, isSame, isFloor, isCeil, sameRounding};
 ghost use Rattle.layer.specs.Limits.{within, imagesOk, channelsOk, sizeOk, kernelOk, stepOk, padOk, outputPaddingOk, tapsOk, elementsOk, axisOk};
-ghost use Rattle.layer.specs.Defaults.{defaultAxis, defaultLayer, isDefaultRounding, isDefaultAxis};
+ghost use Rattle.layer.specs.Defaults.{defaultAxis, defaultLayer, isDefaultRounding, isDefaultAxisAttribute};
 ghost use Rattle.layer.specs.Answers.{numbered, badElement};
 
 pub enum Op {
@@ -314,8 +314,8 @@ pub fn is_default_rounding(rounding: Rounding) -> bool
     same_rounding(rounding, Layer::ROUNDING)
 }
 
-pub fn is_default_axis(axis: i32) -> bool
-    ensures { λ r. ⌜ r ≡ isDefaultAxis axis ⌝ }
+pub fn is_default_axis_attribute(axis: i32) -> bool
+    ensures { λ r. ⌜ r ≡ isDefaultAxisAttribute axis ⌝ }
 {
     (Layer::AXIS <= axis) & (axis <= Layer::AXIS)
 }
