@@ -1,4 +1,5 @@
 pub mod Size
 pub mod Taps
+pub mod Joins
 pub mod Sizing
 pub mod Bounds

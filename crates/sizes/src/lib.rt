@@ -1,4 +1,4 @@
-// Sizes along one axis, and the taps of one axis that lie inside the input.
+// Sizes along one axis, where a tap of an axis lies, and which taps lie inside the input.
 use layer::AutoPad;
 use layer::Axis;
 use layer::Op;
@@ -15,24 +15,33 @@ ghost use Prim.Native.Nat.{_^_, _+_, _-_, _*_, _/_, _≤_, _<_, min};
 ghost use mathlib.Core.Path.{_≡_};
 ghost use mathlib.Core.Bool.{true};
 ghost use Rattle.sizes.specs.Size.{ceilDiv, dilatedKernel, padded, explicitOut, validOut, sameOut, sameTotal, padsOf, windowOut, transposedOut, outOf, windowFits, axisFits};
-ghost use Rattle.sizes.specs.Taps.{tapPosition, inside, spanWith, someMissed, Exactly, stepsTo};
+ghost use Rattle.sizes.specs.Taps.{tapInside, someMissed, Exactly, stepsTo};
+ghost use Rattle.sizes.specs.Joins.{positionIn, positionBy, forward, backward, tapOn};
 ghost use Rattle.sizes.specs.Sizing.{axisDimensionsOk, padsOk, axisAttributesOk, modeOk, spanOf, sizing};
-ghost use Rattle.sizes.specs.Bounds.{AxisLimits};
+ghost use Rattle.sizes.specs.Bounds.{AxisLimits, SpanLimits};
 
-// One axis of an accepted layer: its sizes and steps, the padding at its beginning, and the output size.
+// One axis of an accepted layer: its sizes and steps, the padding at its beginning, and the output size. Steps of 16 bits and all else of 32 keep every sum and
+// product of an axis below 2^64, so that no function here asks anything of its caller.
 pub struct Span {
-    pub input: usize,
-    pub kernel: usize,
-    pub stride: usize,
-    pub dilation: usize,
-    pub begin: usize,
-    pub out: usize,
+    pub input: u32,
+    pub kernel: u32,
+    pub stride: u16,
+    pub dilation: u16,
+    pub begin: u32,
+    pub out: u32,
 }
 
-// What the size rule makes of an axis: its span, or the number that refuses it.
+// What the size rule makes of an axis: its span, or none.
 pub enum Sizing {
     Sized(Span),
-    Unfit(u32),
+    Unfit,
+}
+
+// Where a tap lies along an axis, or along several axes taken as one: outside the input, or at a position of it. A tap is document 01's term for one place of
+// the kernel.
+pub enum Tap {
+    Outside,
+    At(usize),
 }
 
 // The taps of one output position that lie inside the input: `count` of them, from `first` on.
@@ -45,6 +54,12 @@ pub struct Taps {
 pub struct Pads {
     pub begin: usize,
     pub end: usize,
+}
+
+// Which way a tap is read: from an output position (convolution, pooling), or as transposed convolution does.
+pub enum Direction {
+    Forward,
+    Backward,
 }
 
 // ---- whole numbers
@@ -212,17 +227,19 @@ fn out_of(op: Op, m: AutoPad, rounding: Rounding, a: Axis) -> usize
 
 fn span_of(op: Op, m: AutoPad, rounding: Rounding, a: Axis) -> Span
     requires { ⌜ AxisLimits a × (axisFits op m a ≡ true) ⌝ }
+    requires { ⌜ SpanLimits (spanOf op m rounding a) ⌝ }
     ensures { λ r. ⌜ r ≡ spanOf op m rounding a ⌝ }
 {
     let p = pads_of(m, a);
     let out = out_of(op, m, rounding, a);
+    let begin = p.begin;
     Span {
-        input: a.input as usize,
-        kernel: a.kernel as usize,
-        stride: a.stride as usize,
-        dilation: a.dilation as usize,
-        begin: p.begin,
-        out,
+        input: a.input,
+        kernel: a.kernel,
+        stride: a.stride as u16,
+        dilation: a.dilation as u16,
+        begin: begin as u32,
+        out: out as u32,
     }
 }
 
@@ -260,20 +277,83 @@ pub fn mode_ok(op: Op, m: AutoPad) -> bool
     !(is_transposed(op) & is_same(m))
 }
 
-// The size rule: the lowest of the numbers 1, 2 and 5 that holds on this axis, or its span.
+// The size rule: the span of an axis on which none of the numbers 1, 2 and 5 holds.
 pub fn size_axis(op: Op, auto_pad: AutoPad, rounding: Rounding, axis: Axis) -> Sizing
     ensures { λ r. ⌜ r ≡ sizing op «auto_pad» rounding axis ⌝ }
 {
-    if !axis_dimensions_ok(axis) {
-        return Sizing::Unfit(1);
-    }
-    if !(mode_ok(op, auto_pad) & axis_attributes_ok(op, auto_pad, axis)) {
-        return Sizing::Unfit(2);
+    if !(axis_dimensions_ok(axis) & axis_attributes_ok(op, auto_pad, axis)) {
+        return Sizing::Unfit;
     }
     if !axis_fits(op, auto_pad, axis) {
-        return Sizing::Unfit(5);
+        return Sizing::Unfit;
     }
     Sizing::Sized(span_of(op, auto_pad, rounding, axis))
+}
+
+// ---- where a tap lies
+
+// A position of an axis of this size, if it lies inside.
+fn position(at: usize, size: u32) -> Tap
+    ensures { λ r. ⌜ r ≡ positionIn size at ⌝ }
+{
+    if at < size as usize {
+        Tap::At(at)
+    } else {
+        Tap::Outside
+    }
+}
+
+// The input position at which tap k of output position p lies.
+pub fn forward(s: Span, p: u32, k: u32) -> Tap
+    ensures { λ r. ⌜ r ≡ forward s p k ⌝ }
+{
+    let at = p as usize * s.stride as usize + k as usize * s.dilation as usize;
+    let begin = s.begin as usize;
+    if at < begin {
+        return Tap::Outside;
+    }
+    position(at - begin, s.input)
+}
+
+// The position that so many strides come to, if they come to one. A stride of 1 needs no division.
+fn position_by(distance: usize, stride: usize, size: u32) -> Tap
+    ensures { λ r. ⌜ r ≡ positionBy size stride distance ⌝ }
+{
+    if stride == 1 {
+        return position(distance, size);
+    }
+    if stride == 0 {
+        if distance == 0 {
+            return position(0, size);
+        }
+        return Tap::Outside;
+    }
+    if distance % stride != 0 {
+        return Tap::Outside;
+    }
+    position(distance / stride, size)
+}
+
+// The input position that tap k reaches from output position q.
+pub fn backward(s: Span, q: u32, k: u32) -> Tap
+    ensures { λ r. ⌜ r ≡ backward s q k ⌝ }
+{
+    let from = q as usize + s.begin as usize;
+    let back = k as usize * s.dilation as usize;
+    if from < back {
+        return Tap::Outside;
+    }
+    position_by(from - back, s.stride as usize, s.input)
+}
+
+// The input position of tap k from output position p, in either direction.
+pub fn tap_on(d: Direction, s: Span, p: u32, k: u32) -> Tap
+    ensures { λ r. ⌜ r ≡ tapOn d s p k ⌝ }
+{
+    match d {
+        Direction::Forward => forward(s, p, k),
+        Direction::Backward => backward(s, p, k),
+    }
 }
 
 // ---- taps inside the input
@@ -290,27 +370,28 @@ fn steps_to(distance: usize, step: usize) -> usize
     }
 }
 
-// The taps of output position p that lie inside the input, for any numbers.
-pub fn taps_inside(a: Axis, begin: u32, p: u32) -> Taps
-    ensures { λ r. ⌜ Exactly (a .kernel) (λ k. inside begin (a .input) (tapPosition (a .stride) (a .dilation) p k)) (r .first) (r .count) ⌝ }
+// The taps of output position p that lie inside the input.
+pub fn taps_inside(s: Span, p: u32) -> Taps
+    ensures { λ r. ⌜ Exactly (s .kernel) (tapInside s p) (r .first) (r .count) ⌝ }
 {
-    let start = p as usize * a.stride as usize;
-    let begin = begin as usize;
-    let dilation = a.dilation as usize;
+    let start = p as usize * s.stride as usize;
+    let begin = s.begin as usize;
+    let dilation = s.dilation as usize;
     let first = steps_to(minus(begin, start), dilation);
-    let until = steps_to(minus(a.input as usize + begin, start), dilation);
-    let end = least(a.kernel as usize, until);
+    let until = steps_to(minus(s.input as usize + begin, start), dilation);
+    let end = least(s.kernel as usize, until);
     let count = minus(end, first);
     Taps { first, count }
 }
 
-// Whether some output position of an axis has no tap inside the input, for any numbers.
-pub fn some_missed(a: Axis, begin: u32, out: u32) -> bool
-    ensures { λ r. ⌜ r ≡ someMissed (spanWith a begin out) ⌝ }
+// Whether some output position of an axis has no tap inside the input.
+pub fn some_missed(s: Span) -> bool
+    ensures { λ r. ⌜ r ≡ someMissed s ⌝ }
 {
+    let out = s.out;
     let mut p: u32 = 0;
     while p < out {
-        let t = taps_inside(a, begin, p);
+        let t = taps_inside(s, p);
         let count = t.count;
         if count == 0 {
             return true;
