@@ -1,0 +1,36 @@
+-- Caps inside a product are not seen outside, and each arm is the product of the last dimensions.
+use native.Mathlib.Nat.{mul-one}
+use mathlib.Core.Path.{ap}
+use borrow.Author.Needs.{needs}
+use Rattle.counts.specs.Counts.{capped}
+use Rattle.counts.proofs.Capped.{capped-right}
+use Rattle.counts.proofs.Modulus.{none-left}
+use Rattle.counts.proofs.product_from.Statement.{statement}
+use Rattle.counts.proofs.product_from.Tie as tie
+
+returns : tie.Need-returns
+returns c =
+    simp (c .match .keys1, c .before .times3 .ensures, c .before .before .times2 .ensures, c .before .before .before .times .ensures, capped-right, mul-one)
+
+returns-2 : tie.Need-returns-2
+returns-2 c = simp (c .match .keys2, c .before .before .times2 .ensures, c .before .before .before .times .ensures, capped-right, mul-one)
+
+returns-3 : tie.Need-returns-3
+returns-3 c = simp (c .match .keys3, c .before .before .before .times .ensures, mul-one)
+
+returns-4 : tie.Need-returns-4
+returns-4 c = simp (c .match .keys4, c .before .before .before .before .cap .ensures, mul-one)
+
+returns-5 : tie.Need-returns-5
+unfolding capped
+returns-5 c =
+    let a = c .before .before .before .before .before .args in
+    let h = c .match .rest in
+    ap capped (none-left (a .k) (a .a) (a .b) (a .c) (a .d) (h .0 .0 .0 .1) (h .0 .0 .1) (h .0 .1) (h .1))
+
+pub product-from-spec : {M : Type 1} → statement M
+product-from-spec =
+    tie.close
+    (tie.spec
+    (λ c κs. search needs) (λ c κs. search needs) (λ c κs. search needs) (λ c κs. search needs) returns returns-2 returns-3 returns-4
+    returns-5)
