@@ -1,6 +1,6 @@
-pub mod Capped
-pub mod Empty
 pub mod Limits
 pub mod Steps
 pub mod Fits
+pub mod Empty
 pub mod Accepted
+pub mod Volumes

@@ -1,4 +1,7 @@
 // Checks 1 to 7 of a layer, and what an accepted layer tells an operator.
+use counts::modulus_of;
+use counts::times;
+use counts::volume;
 use layer::AutoPad;
 use layer::Axis;
 use layer::Layer;
@@ -8,44 +11,53 @@ use layer::axis_ok;
 use layer::channels_ok;
 use layer::elements_ok;
 use layer::images_ok;
-use layer::is_default_axis;
+use layer::is_default_axis_attribute;
 use layer::is_default_rounding;
 use layer::is_explicit;
 use layer::is_pool;
 use layer::same_op;
 use layer::taps_ok;
+use sizes::Direction;
 use sizes::Sizing;
 use sizes::Span;
+use sizes::Tap;
 use sizes::axis_attributes_ok;
 use sizes::axis_dimensions_ok;
 use sizes::mode_ok;
 use sizes::size_axis;
 use sizes::some_missed;
+use sizes::tap_on;
 ghost use Prim.Native.Nat.{_*_, _≤_};
 ghost use mathlib.Core.Path.{_≡_};
 ghost use mathlib.Core.Bool.{not, _&&_};
 ghost use Rattle.layer.specs.Kinds.{isPool};
-ghost use Rattle.sizes.specs.Taps.{spanWith};
 ghost use Rattle.sizes.specs.Bounds.{SpanLimits};
-ghost use Rattle.shape.specs.Counts.{capped, inputCount, kernelCount, tapCount, outputChannels};
+ghost use Rattle.sizes.specs.Joins.{tapOn};
+ghost use Rattle.counts.specs.Counts.{capped};
+ghost use Rattle.counts.specs.Index.{modulus};
+ghost use Rattle.shape.specs.Counts.{inputCount, kernelCount, tapCount, outputChannels, shapeWith};
+ghost use Rattle.shape.specs.Volumes.{inputRows, kernelRows, outRows, onRows};
 ghost use Rattle.shape.specs.Windows.{someEmpty};
 ghost use Rattle.shape.specs.Checks.{groupsWithin, dimensionsOk, padsAtDefault, axisAtDefault, axesOk, poolingOk, notPoolingOk, unusedOk, attributesOk, groupsOk, countsOk};
-ghost use Rattle.shape.specs.Judge.{shapeWith, judged};
+ghost use Rattle.shape.specs.Judge.{judged};
 ghost use Rattle.shape.specs.Facts.{Passed, Fitted};
 
-// What an accepted layer comes to: its sizes, the spans of its axes, the taps of an output, and the elements of input, kernel and output.
+// What an accepted layer comes to: its sizes and output channels, the spans of its axes, the taps of an output, the elements of input, kernel and output, and
+// what the index of a pooled element is counted modulo.
 pub struct Shape {
     pub n: usize,
     pub c: usize,
     pub g: usize,
     pub o: usize,
     pub i: usize,
+    pub channels: usize,
     pub y: Span,
     pub x: Span,
     pub taps: usize,
     pub inputs: usize,
     pub weights: usize,
     pub outputs: usize,
+    pub modulus: usize,
 }
 
 // What checks 1 to 7 say: the shape, or the number.
@@ -111,7 +123,7 @@ fn pooling_ok(axes: u32, axis: i32, g: u32, o: u32, i: u32) -> bool
 fn not_pooling_ok(rounding: Rounding, axis: i32) -> bool
     ensures { λ r. ⌜ r ≡ notPoolingOk rounding axis ⌝ }
 {
-    is_default_rounding(rounding) & is_default_axis(axis)
+    is_default_rounding(rounding) & is_default_axis_attribute(axis)
 }
 
 fn unused_ok(op: Op, l: Layer) -> bool
@@ -135,29 +147,6 @@ fn attributes_ok(op: Op, l: Layer) -> bool
 }
 
 // ---- numbers 3 and 4
-
-// The largest count that is told apart from larger ones: one past the limit.
-const CAP: usize = 16777217;
-
-fn cap(n: usize) -> usize
-    ensures { λ r. ⌜ r ≡ capped n ⌝ }
-{
-    if n <= CAP { n } else { CAP }
-}
-
-// A product of any two numbers, held at the cap.
-fn times(a: usize, b: usize) -> usize
-    ensures { λ r. ⌜ r ≡ capped (a * b) ⌝ }
-{
-    cap(cap(a) * cap(b))
-}
-
-// An element count a·b·y·x, held at the cap.
-fn volume(a: usize, b: usize, y: usize, x: usize) -> usize
-    ensures { λ r. ⌜ r ≡ capped (a * b * y * x) ⌝ }
-{
-    times(times(times(a, b), y), x)
-}
 
 fn input_count(n: u32, c: u32, y: u32, x: u32) -> usize
     ensures { λ r. ⌜ r ≡ capped (n * c * y * x) ⌝ }
@@ -215,40 +204,45 @@ fn output_channels(op: Op, c: u32, g: u32, o: u32) -> usize
 }
 
 // Number 7, one axis at a time: a window is empty exactly if it is on some axis.
-fn windows_ok(op: Op, ay: Axis, y: Span, ax: Axis, x: Span) -> bool
-    requires { ⌜ SpanLimits y × SpanLimits x ⌝ }
-    ensures { λ r. ⌜ r ≡ not (isPool op && someEmpty (spanWith ay (y .begin) (y .out)) (spanWith ax (x .begin) (x .out))) ⌝ }
+fn windows_ok(op: Op, s: Shape) -> bool
+    requires { ⌜ SpanLimits (s .y) × SpanLimits (s .x) ⌝ }
+    ensures { λ r. ⌜ r ≡ not (isPool op && someEmpty s) ⌝ }
 {
     if is_pool(op) {
-        let missed_y = some_missed(ay, y.begin as u32, y.out as u32);
-        let missed_x = some_missed(ax, x.begin as u32, x.out as u32);
+        let missed_y = some_missed(s.y);
+        let missed_x = some_missed(s.x);
         !(missed_y | missed_x)
     } else {
         true
     }
 }
 
-fn shape_of(l: Layer, y: Span, x: Span, outputs: usize) -> Shape
+fn shape_of(l: Layer, y: Span, x: Span, channels: usize, outputs: usize) -> Shape
     requires { ⌜ (tapCount l ≤ 16777216) × (inputCount l ≤ 16777216) × (kernelCount l ≤ 16777216) ⌝ }
-    ensures { λ r. ⌜ r ≡ shapeWith l y x outputs ⌝ }
+    requires { ⌜ modulus (l .axes) (l .axis) (l .n) (l .c) (l .y .input) (l .x .input) ≤ 16777216 ⌝ }
+    ensures { λ r. ⌜ r ≡ shapeWith l y x channels outputs ⌝ }
 {
     let ay = l.y;
     let ax = l.x;
+    let axis = l.axis;
     let taps = tap_count(l.i, ay.kernel, ax.kernel);
     let inputs = input_count(l.n, l.c, ay.input, ax.input);
     let weights = kernel_count(l.g, l.o, l.i, ay.kernel, ax.kernel);
+    let modulus = modulus_of(l.axes, axis, l.n, l.c, ay.input, ax.input);
     Shape {
         n: l.n as usize,
         c: l.c as usize,
         g: l.g as usize,
         o: l.o as usize,
         i: l.i as usize,
+        channels,
         y,
         x,
         taps,
         inputs,
         weights,
         outputs,
+        modulus,
     }
 }
 
@@ -276,14 +270,15 @@ fn judge_spans(op: Op, l: Layer, y: Span, x: Span) -> Judged
     ensures { λ r. ⌜ r ≡ judged op l ⌝ }
 {
     let channels = output_channels(op, l.c, l.g, l.o);
-    let outputs = volume(l.n as usize, channels, y.out, x.out);
+    let outputs = volume(l.n as usize, channels, y.out as usize, x.out as usize);
     if !elements_ok(outputs) {
         return Judged::Refused(6);
     }
-    if !windows_ok(op, l.y, y, l.x, x) {
+    let s = shape_of(l, y, x, channels, outputs);
+    if !windows_ok(op, s) {
         return Judged::Refused(7);
     }
-    Judged::Accepted(shape_of(l, y, x, outputs))
+    Judged::Accepted(s)
 }
 
 // Checks 1 to 7, lowest first, by the operator that is called.
@@ -303,4 +298,31 @@ pub fn judge(op: Op, layer: Layer) -> Judged
         return Judged::Refused(4);
     }
     judge_sizes(op, layer)
+}
+
+// ---- the axes of a plane as rows and columns
+
+pub fn input_rows(s: Shape) -> usize
+    ensures { λ r. ⌜ r ≡ inputRows s ⌝ }
+{
+    s.y.input as usize
+}
+
+pub fn kernel_rows(s: Shape) -> usize
+    ensures { λ r. ⌜ r ≡ kernelRows s ⌝ }
+{
+    s.y.kernel as usize
+}
+
+pub fn out_rows(s: Shape) -> usize
+    ensures { λ r. ⌜ r ≡ outRows s ⌝ }
+{
+    s.y.out as usize
+}
+
+// The row of the input at which kernel row k of output row p lies, in either direction.
+pub fn row_tap(d: Direction, s: Shape, p: u32, k: u32) -> Tap
+    ensures { λ r. ⌜ r ≡ onRows (tapOn d) s p k ⌝ }
+{
+    tap_on(d, s.y, p, k)
 }

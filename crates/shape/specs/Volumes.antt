@@ -1,0 +1,39 @@
+-- The axes of a plane as one. All but the last are folded into rows, so that the operators know rows and columns alone; a third axis is said here and
+-- nowhere else.
+use Prim.Native.Nat.{ℕ, _+_, _*_, _/_, _%_}
+use Rattle.sizes.specs.declared.Span.{Span}
+use Rattle.sizes.specs.declared.Tap.{Tap}
+use Rattle.sizes.specs.Joins.{both}
+use Rattle.shape.specs.declared.Shape.{Shape}
+
+-- ---- rows: what lies along the last axis, numbered "Row-major, last axis fastest." over the others
+unfoldable pub inputRows : Shape → ℕ
+inputRows s = s .y .input
+
+unfoldable pub kernelRows : Shape → ℕ
+kernelRows s = s .y .kernel
+
+unfoldable pub outRows : Shape → ℕ
+outRows s = s .y .out
+
+-- the row of the input at which kernel row k of output row p lies: `f` is `forward` (convolution, pooling) or `backward` (transposed)
+unfoldable pub onRows : (Span → ℕ → ℕ → Tap) → Shape → ℕ → ℕ → Tap
+onRows f s p k = f (s .y) p k
+
+-- ---- positions of a plane: "Row-major, last axis fastest."
+abbrev pub inputVolume : Shape → ℕ
+inputVolume s = inputRows s * s .x .input
+
+abbrev pub kernelVolume : Shape → ℕ
+kernelVolume s = kernelRows s * s .x .kernel
+
+abbrev pub outVolume : Shape → ℕ
+outVolume s = outRows s * s .x .out
+
+-- the position of the input plane at which kernel position k of output position p lies: "likewise for columns", "and likewise for x"
+unfoldable pub onPlane : (Span → ℕ → ℕ → Tap) → Shape → ℕ → ℕ → Tap
+onPlane f s p k = both (s .x .input) (onRows f s (p / s .x .out) (k / s .x .kernel)) (f (s .x) (p % s .x .out) (k % s .x .kernel))
+
+-- ---- planes: "G groups, C = G·I, output channels G·O". Output plane (n·G + g)·O + o has the input planes (n·G + g)·I + i.
+abbrev pub inputPlane : Shape → ℕ → ℕ → ℕ
+inputPlane s plane i = plane / s .o * s .i + i
