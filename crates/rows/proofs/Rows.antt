@@ -10,16 +10,16 @@ use lib.ListN.{length, take, drop, set, length-set, length-drop, List·getD-appe
 use lib.Seq.{getD-set-same, getD-set-other, getD-append-add, getD-take, getD-drop, ext-getD, length-take-le}
 use lib.Dec.{T}
 use lib.Ieee.{Float, nan}
+use lib.Ieee.Scale.{finite}
 use Rattle.tensor.specs.Table.{read, plusZero, tabulate}
 use Rattle.tensor.proofs.Table.{tabulate-length, tabulate-get}
-use Rattle.sums.specs.Taps.{Tap, none, pair, addTap, sumFrom}
-use Rattle.sums.specs.Finite.{isFinite}
+use Rattle.sums.specs.Taps.{Factors, none, pair, addTap, sumFrom}
 use Rattle.sums.proofs.Sums.{sum-start, sum-more, sum-append, sum-same, sum-none}
 use Rattle.sums.proofs.Outside.{zero-from-zero, add-outside}
 use Rattle.rows.specs.Rows.{Summed, across}
 
 -- the sum of one tap
-pub sum-one : (start : Float) (taps : ℕ → Tap) → addTap start (taps 0) ≡ sumFrom start taps 1
+pub sum-one : (start : Float) (taps : ℕ → Factors) → addTap start (taps 0) ≡ sumFrom start taps 1
 sum-one start taps = sym (sum-more start taps 0 ∙ ap (λ (s : Float). addTap s (taps 0)) (sum-start start taps))
 
 -- the first tap, and the first three taps, of a row of values under a kernel row, at the code's places
@@ -39,7 +39,7 @@ module _ (values weights : List Float) (stride dilation : ℕ) (sum : Float) (x 
       ∙ ap (λ (s : Float). addTap s (t 2)) (sym (sum-more sum t 1)) ∙ sym (sum-more sum t 2)
 
 -- ---- more sums of a row
-module _ (taps : ℕ → ℕ → Tap) (k : ℕ) where
+module _ (taps : ℕ → ℕ → Factors) (k : ℕ) where
   -- before the first
   pub summed-none : (l : List Float) → Summed taps k 0 l l
   summed-none l = record { kept = refl; done = λ x h. absurd (omega arith); rest = λ x h. refl }
@@ -120,15 +120,15 @@ module _ (taps : ℕ → ℕ → Tap) (k : ℕ) where
 -- ---- more taps of each sum
 
 -- no tap yet
-pub summed-start : (taps : ℕ → ℕ → Tap) (n : ℕ) (l : List Float) → Summed taps 0 n l l
+pub summed-start : (taps : ℕ → ℕ → Factors) (n : ℕ) (l : List Float) → Summed taps 0 n l l
 summed-start taps n l = record { kept = refl; done = λ x h. sym (sum-start (read l x) (taps x)); rest = λ x h. refl }
 
 -- taps that take no part
-pub summed-away : {taps : ℕ → ℕ → Tap} {k n : ℕ} {l : List Float} → ((x t : ℕ) → x < n → t < k → taps x t ≡ none) → Summed taps k n l l
+pub summed-away : {taps : ℕ → ℕ → Factors} {k n : ℕ} {l : List Float} → ((x t : ℕ) → x < n → t < k → taps x t ≡ none) → Summed taps k n l l
 summed-away {taps} {k} {n} {l} h = record { kept = refl; done = λ x p. sym (sum-none (read l x) (taps x) k (λ t q. h x t p q)); rest = λ x p. refl }
 
 -- m taps more
-pub summed-more : (taps : ℕ → ℕ → Tap) (k m : ℕ) {n : ℕ} {before l o : List Float} → Summed taps k n before l → Summed (λ x j. taps x (k + j)) m n l o → Summed taps (k + m) n before o
+pub summed-more : (taps : ℕ → ℕ → Factors) (k m : ℕ) {n : ℕ} {before l o : List Float} → Summed taps k n before l → Summed (λ x j. taps x (k + j)) m n l o → Summed taps (k + m) n before o
 summed-more taps k m {n} {before} {l} {o} i j =
     record {
       kept = j .kept ∙ i .kept;
@@ -137,16 +137,16 @@ summed-more taps k m {n} {before} {l} {o} i j =
     }
 
 -- one kernel row of m taps more
-pub summed-row : (taps : ℕ → ℕ → Tap) (r m : ℕ) {n : ℕ} {before l o : List Float} → Summed taps (r * m) n before l → Summed (λ x j. taps x (r * m + j)) m n l o → Summed taps ((r + 1) * m) n before o
+pub summed-row : (taps : ℕ → ℕ → Factors) (r m : ℕ) {n : ℕ} {before l o : List Float} → Summed taps (r * m) n before l → Summed (λ x j. taps x (r * m + j)) m n l o → Summed taps ((r + 1) * m) n before o
 summed-row taps r m i j = rw (add-one r, suc-mul r m) (summed-more taps (r * m) m i j)
 
 -- equal taps
-pub summed-same : {taps others : ℕ → ℕ → Tap} {k n : ℕ} {l m : List Float} → Summed taps k n l m → ((x t : ℕ) → x < n → t < k → taps x t ≡ others x t) → Summed others k n l m
+pub summed-same : {taps others : ℕ → ℕ → Factors} {k n : ℕ} {l m : List Float} → Summed taps k n l m → ((x t : ℕ) → x < n → t < k → taps x t ≡ others x t) → Summed others k n l m
 summed-same {taps} {others} {k} {n} {l} {m} i h =
     record { kept = i .kept; done = λ x p. i .done x p ∙ sum-same (read l x) (taps x) (others x) k (λ t q. h x t p q); rest = i .rest }
 
 -- ---- a row of outputs: its sums start at +0 and take all their taps
-pub line-filled : (f : ℕ → Float) (taps : ℕ → ℕ → Tap) (k n : ℕ) (w : Float) {l m : List Float} → T (isFinite w) → l ≡ tabulate (λ x. addTap plusZero (pair plusZero w)) n
+pub line-filled : (f : ℕ → Float) (taps : ℕ → ℕ → Factors) (k n : ℕ) (w : Float) {l m : List Float} → T (finite w) → l ≡ tabulate (λ x. addTap plusZero (pair plusZero w)) n
     → Summed taps k n l m → ((x : ℕ) → x < n → sumFrom plusZero (taps x) k ≡ f x) → m ≡ tabulate f n
 line-filled f taps k n w {l} {m} h e i o =
     ext-getD nan m (tabulate f n) (kept ∙ sym (tabulate-length f n)) (λ x p.

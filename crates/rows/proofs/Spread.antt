@@ -15,7 +15,7 @@ use lib.Ieee.{Float, nan}
 use Rattle.sizes.specs.Size.{ceilDiv}
 use Rattle.sizes.proofs.Division.{lt-ceil}
 use Rattle.tensor.specs.Table.{read}
-use Rattle.tensor.proofs.Places.{place-mod}
+use Rattle.layer.proofs.Places.{place-mod}
 use Rattle.sums.specs.Taps.{none, pair, addTap}
 use Rattle.rows.specs.Rows.{Summed, spread}
 use Rattle.rows.proofs.Rows.{sum-one, summed-none, summed-next, summed-skip, summed-whole, summed-same}

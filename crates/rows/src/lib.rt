@@ -7,7 +7,7 @@ ghost use mathlib.Core.Path.{_≡_};
 ghost use Prim.Native.Nat.{ℕ, _+_, _-_, _*_, _≤_, _<_, min};
 ghost use lib.ListN.{length};
 ghost use Rattle.sizes.specs.Size.{ceilDiv};
-ghost use Rattle.tensor.specs.Table.{read, plusZero, tabulate};
+ghost use Rattle.tensor.specs.Table.{plusZero, tabulate};
 ghost use Rattle.sums.specs.Taps.{pair, addTap};
 ghost use Rattle.rows.specs.Rows.{Summed, across, held, spread};
 

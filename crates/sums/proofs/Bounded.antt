@@ -14,7 +14,7 @@ use lib.Ieee.Scale.{finite, grid, overflow, round-val, round-under}
 use Rattle.sums.proofs.Round.{Plus, round-plus}
 use Rattle.tensor.proofs.Element.{AtMost}
 
-at-most-finite : (x : Float) (B : ℕ) → AtMost x B → T (finite x)
+pub at-most-finite : (x : Float) (B : ℕ) → AtMost x B → T (finite x)
 at-most-finite nan B h = absurd h
 at-most-finite (inf s) B h = absurd h
 at-most-finite (fin s m e) B h = tt

@@ -11,8 +11,8 @@ use lib.IntN.{ℤ, pos, natAbs, _+ℤ_, _*ℤ_, +ℤ-idr}
 use lib.ListN.{length}
 use lib.Ieee.{Float, fin, binary32, add, mul}
 use lib.Ieee.Fits.{and-i, and-l, and-r}
-use Rattle.tensor.specs.Table.{read, plusZero}
-use Rattle.sums.specs.Taps.{Place, missing, outside, at, Tap, none, pair, tapAt, addTap, sumFrom, tapsOf, outputsOf, InRange, AllInRange}
+use Rattle.tensor.specs.Table.{read, plusZero, tabulate}
+use Rattle.sums.specs.Taps.{Place, missing, outside, at, Factors, none, pair, tapAt, addTap, sumFrom, tapsOf, outputOf, InRange, AllInRange}
 use Rattle.sums.specs.Whole.{isWhole, value, product, total, exactSum, magnitudes, distance, small, WholeSum, AllSmall, AllWhole}
 use Rattle.sums.proofs.Integers.{distance-plus, distance-trans, distance-self, abs-plus, abs-near, abs-times}
 use Rattle.sums.proofs.Errors.{errors, errors-more, errors-le, errors-is}
@@ -21,11 +21,11 @@ use Rattle.sums.proofs.Sums.{sum-append, sum-none}
 use Rattle.sums.proofs.Outputs.{outputs-read}
 
 -- ---- the premise, for a tap
-unfoldable pub smallTap : Tap → Bool
+unfoldable pub smallTap : Factors → Bool
 smallTap none = true
 smallTap (pair x w) = small x && small w
 
-abbrev pub SmallTaps : (ℕ → Tap) → ℕ → Type 0
+abbrev pub SmallTaps : (ℕ → Factors) → ℕ → Type 0
 SmallTaps taps n = (t : ℕ) → t < n → T (smallTap (taps t))
 
 small-whole : (x : Float) → T (small x) → T (isWhole x)
@@ -34,7 +34,7 @@ small-whole x h = and-l (isWhole x) (leb (natAbs (value x)) 4096) h
 small-le : (x : Float) → T (small x) → natAbs (value x) ≤ 4096
 small-le x h = leb→le (natAbs (value x)) 4096 (and-r (isWhole x) (leb (natAbs (value x)) 4096) h)
 
-product-le : (tap : Tap) → T (smallTap tap) → natAbs (product tap) ≤ 16777216
+product-le : (tap : Factors) → T (smallTap tap) → natAbs (product tap) ≤ 16777216
 unfolding smallTap product
 product-le none h = omega arith
 product-le (pair x w) h = rw (abs-times (value x) (value w)) (mul-le-mul (small-le x (and-l (small x) (small w) h)) (small-le w (and-r (small x) (small w) h)))
@@ -78,7 +78,7 @@ step-none n s e m h =
     })
 
 -- ---- the running sum
-record Running (taps : ℕ → Tap) (n : ℕ) (r : Float) : Type 0 where
+record Running (taps : ℕ → Factors) (n : ℕ) (r : Float) : Type 0 where
   whole : T (isWhole r)
   close : Close n (value r) (exactSum taps n) (magnitudes taps n)
 
@@ -86,7 +86,7 @@ record Running (taps : ℕ → Tap) (n : ℕ) (r : Float) : Type 0 where
 in-range : (n : ℕ) → n < 140000000000 → n + n < 2 ^ 128
 in-range n h = let a : n + n < 280000000000 = omega arith in lt-of-lt-of-le a (lit≤ tt)
 
-one-tap : (taps : ℕ → Tap) (n : ℕ) (sum : Float) (tap : Tap) → n < 4096 → T (smallTap tap) → Running taps n sum
+one-tap : (taps : ℕ → Factors) (n : ℕ) (sum : Float) (tap : Factors) → n < 4096 → T (smallTap tap) → Running taps n sum
     → T (isWhole (addTap sum tap)) × Close (suc n) (value (addTap sum tap)) (exactSum taps n +ℤ product tap) (magnitudes taps n + natAbs (product tap))
 unfolding addTap smallTap product
 one-tap taps n sum none l h g = (g .whole, step-none n (value sum) (exactSum taps n) (magnitudes taps n) (g .close))
@@ -100,7 +100,7 @@ one-tap taps n sum (pair x w) l h g =
     let r = plus binary32 sum (mul binary32 x w) (g .whole) (y .0) (rw (y .1) (in-range (natAbs (value sum +ℤ p)) v)) in
     (r .0, step n (value sum) (exactSum taps n) p (value (add binary32 sum (mul binary32 x w))) (magnitudes taps n) l (g .close) b (rw (y .1) at (r .1)))
 
-running : (taps : ℕ → Tap) (n : ℕ) → n ≤ 4096 → SmallTaps taps n → Running taps n (sumFrom plusZero taps n)
+running : (taps : ℕ → Factors) (n : ℕ) → n ≤ 4096 → SmallTaps taps n → Running taps n (sumFrom plusZero taps n)
 unfolding sumFrom total magnitudes isWhole value errors
 running taps zero l h = record { whole = tt; close = record { near = omega arith; same = λ _. refl; exact = omega arith; total-le = omega arith } }
 running taps (suc n) l h =
@@ -108,13 +108,13 @@ running taps (suc n) l h =
     record { whole = r .0; close = r .1 }
 
 -- ---- demand 3 for one output
-pub whole-sum : (taps : ℕ → Tap) (k : ℕ) → k ≤ 4096 → SmallTaps taps k → WholeSum taps k (sumFrom plusZero taps k)
+pub whole-sum : (taps : ℕ → Factors) (k : ℕ) → k ≤ 4096 → SmallTaps taps k → WholeSum taps k (sumFrom plusZero taps k)
 whole-sum taps k l h =
     let g = running taps k l h in
     record { whole = g .whole; near = omega (arith, g .close .near, errors-is k); same = λ m. g .close .same (omega (arith, m)) }
 
 -- "K is I·KY·KX, also where fewer taps reach an output": a sum of n taps, where the others of the k take no part
-pub whole-sum-fewer : (taps : ℕ → Tap) (n k : ℕ) → n ≤ k → k ≤ 4096 → SmallTaps taps n → ((t : ℕ) → n ≤ t → t < k → taps t ≡ none) → WholeSum taps k (sumFrom plusZero taps n)
+pub whole-sum-fewer : (taps : ℕ → Factors) (n k : ℕ) → n ≤ k → k ≤ 4096 → SmallTaps taps n → ((t : ℕ) → n ≤ t → t < k → taps t ≡ none) → WholeSum taps k (sumFrom plusZero taps n)
 unfolding smallTap
 whole-sum-fewer taps n k f l h e =
     let parts : k ≡ n + (k - n) = omega arith in
@@ -134,12 +134,12 @@ small-tap input kernel (at a b) hi hk r = and-i (small (read input a)) (small (r
 
 -- for any place function whose places lie in the tensors
 pub all-whole : (place : ℕ → ℕ → Place) (k n : ℕ) (input kernel output : List Float) → k ≤ 4096 → AllInRange place k n (length input) (length kernel)
-    → output ≡ outputsOf place k n input kernel → AllSmall input → AllSmall kernel → AllWhole (tapsOf place input kernel) k n output
+    → output ≡ tabulate (outputOf place k input kernel) n → AllSmall input → AllSmall kernel → AllWhole (tapsOf place input kernel) k n output
 all-whole place k n input kernel output few r e hi hk j l =
     rw (e, outputs-read place k input kernel n j l) (whole-sum (tapsOf place input kernel j) k few (λ t d. small-tap input kernel (place j t) hi hk (r j t l d)))
 
 -- ---- the exact case cannot be widened: 4096·4096 + 1·1 has magnitudes of 16,777,217 in all, and the sum is 16,777,216
-pub limitTaps : ℕ → Tap
+pub limitTaps : ℕ → Factors
 limitTaps zero = pair (fin false 1 (pos 12)) (fin false 1 (pos 12))
 limitTaps (suc t) = pair (fin false 1 (pos 0)) (fin false 1 (pos 0))
 

@@ -7,28 +7,23 @@ use native.Mathlib.Nat.{lt-of-le-of-lt, zero-lt-suc, mul-one, mul-assoc, mul-le-
 use native.Mathlib.Omega.{arith}
 use lib.Dec.{T, lit≤, lit<}
 use lib.ListN.{length}
-use lib.Ieee.{Float, nan, inf, fin, binary32, up, mul}
+use lib.Ieee.{Float, binary32, mul}
 use lib.Ieee.Exact.{round-exact}
-use Rattle.tensor.specs.Table.{read, plusZero}
+use lib.Ieee.Scale.{finite}
+use Rattle.tensor.specs.Table.{read, plusZero, tabulate}
 use Rattle.tensor.specs.Element.{elementOk}
 use Rattle.tensor.proofs.Element.{AtMost, element-at-most}
-use Rattle.sums.specs.Taps.{Place, missing, outside, at, Tap, none, pair, tapAt, addTap, sumFrom, tapsOf, outputsOf, InRange, AllInRange}
-use Rattle.sums.specs.Finite.{isFinite, AllOk, AllFinite}
-use Rattle.sums.proofs.Bounded.{Holds, mul-at-most, add-at-most, wider}
+use Rattle.sums.specs.Taps.{Place, missing, outside, at, Factors, none, pair, tapAt, addTap, sumFrom, tapsOf, outputOf, InRange, AllInRange}
+use Rattle.sums.specs.Finite.{AllOk, AllFinite}
+use Rattle.sums.proofs.Bounded.{Holds, at-most-finite, mul-at-most, add-at-most, wider}
 use Rattle.sums.proofs.Outputs.{outputs-length, outputs-read}
 
 -- ---- one element
-at-most-finite : (x : Float) (B : ℕ) → AtMost x B → T (isFinite x)
-unfolding isFinite
-at-most-finite nan B h = absurd h
-at-most-finite (inf s) B h = absurd h
-at-most-finite (fin s m e) B h = tt
-
-pub element-finite : (x : Float) → T (elementOk x) → T (isFinite x)
+pub element-finite : (x : Float) → T (elementOk x) → T (finite x)
 element-finite x h = at-most-finite x (2 ^ 40) (element-at-most x h)
 
 -- ---- a running sum
-abbrev pub BoundedTap : Tap → Type 0
+abbrev pub BoundedTap : Factors → Type 0
 BoundedTap none = Unit {0}
 BoundedTap (pair x w) = AtMost x (2 ^ 40) × AtMost w (2 ^ 40)
 
@@ -41,7 +36,7 @@ holds-n n h =
           (mul-assoc n (2 ^ 80) (2 ^ 149) ∙ sym (mul-one (n * 2 ^ 229)));
     }
 
-tap-at-most : (sum : Float) (tap : Tap) (n : ℕ) → n < 4096 → AtMost sum (n * 2 ^ 80) → BoundedTap tap → AtMost (addTap sum tap) (suc n * 2 ^ 80)
+tap-at-most : (sum : Float) (tap : Factors) (n : ℕ) → n < 4096 → AtMost sum (n * 2 ^ 80) → BoundedTap tap → AtMost (addTap sum tap) (suc n * 2 ^ 80)
 unfolding addTap
 tap-at-most sum none n l h b = wider sum (n * 2 ^ 80) (suc n * 2 ^ 80) (omega arith) h
 tap-at-most sum (pair x w) n l h b =
@@ -49,13 +44,13 @@ tap-at-most sum (pair x w) n l h b =
     let p = mul-at-most binary32 x w (2 ^ 40) (2 ^ 40) (b .0) (b .1) (holds-n 1 (omega arith)) in
     rw e (add-at-most binary32 sum (mul binary32 x w) (n * 2 ^ 80) (2 ^ 80) h p (rw e at (holds-n (suc n) l)))
 
-pub sum-at-most : (taps : ℕ → Tap) (n : ℕ) → n ≤ 4096 → ((t : ℕ) → t < n → BoundedTap (taps t)) → AtMost (sumFrom plusZero taps n) (n * 2 ^ 80)
+pub sum-at-most : (taps : ℕ → Factors) (n : ℕ) → n ≤ 4096 → ((t : ℕ) → t < n → BoundedTap (taps t)) → AtMost (sumFrom plusZero taps n) (n * 2 ^ 80)
 unfolding sumFrom
 sum-at-most taps zero h b = lit≤ tt
 sum-at-most taps (suc n) h b = tap-at-most (sumFrom plusZero taps n) (taps n) n h (sum-at-most taps n (omega arith) (λ t l. b t (omega arith))) (b n (omega arith))
 
 -- no overflow and no NaN
-pub sum-finite : (taps : ℕ → Tap) (n : ℕ) → n ≤ 4096 → ((t : ℕ) → t < n → BoundedTap (taps t)) → T (isFinite (sumFrom plusZero taps n))
+pub sum-finite : (taps : ℕ → Factors) (n : ℕ) → n ≤ 4096 → ((t : ℕ) → t < n → BoundedTap (taps t)) → T (finite (sumFrom plusZero taps n))
 sum-finite taps n h b = at-most-finite (sumFrom plusZero taps n) (n * 2 ^ 80) (sum-at-most taps n h b)
 
 -- ---- every output of a call
@@ -67,7 +62,7 @@ bounded-tap input kernel (at a b) hi hk r = (element-at-most (read input a) (hi 
 
 -- for any place function whose places lie in the tensors
 pub all-finite : (place : ℕ → ℕ → Place) (k n : ℕ) (input kernel output : List Float) → k ≤ 4096 → AllInRange place k n (length input) (length kernel)
-    → output ≡ outputsOf place k n input kernel → AllOk input → AllOk kernel → AllFinite output
+    → output ≡ tabulate (outputOf place k input kernel) n → AllOk input → AllOk kernel → AllFinite output
 all-finite place k n input kernel output few r e hi hk j l =
     let d : j < n = rw (e, outputs-length place k input kernel n) at l in
     rw (e, outputs-read place k input kernel n j d) (sum-finite (tapsOf place input kernel j) k few (λ t c. bounded-tap input kernel (place j t) hi hk (r j t d c)))

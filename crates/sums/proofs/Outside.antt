@@ -6,15 +6,11 @@ use native.Mathlib.Omega.{arith}
 use lib.Dec.{T}
 use lib.Ieee.{Float, binary32, fits, mul}
 use lib.Ieee.Fits.{add-fits, mul-fits}
+use lib.Ieee.Scale.{finite}
 use Rattle.tensor.specs.Table.{plusZero}
-use Rattle.sums.specs.Taps.{Tap, none, pair, addTap, sumFrom}
-use Rattle.sums.specs.Finite.{isFinite}
-use Rattle.sums.proofs.Zero.{isMinusZero, add-not, add-zero-same, zero-times}
-
--- what holds of each sum that started at +0: it is a value of f32 and not -0
-pub record FromZero (sum : Float) : Type 0 where
-  pub held : T (fits binary32 sum)
-  pub not-minus : T (not (isMinusZero sum))
+use Rattle.sums.specs.Taps.{Factors, none, pair, addTap, sumFrom}
+use Rattle.sums.specs.Zero.{isMinusZero, FromZero}
+use Rattle.sums.proofs.Zero.{add-not, add-zero-same, zero-times}
 
 pub zero-from-zero : FromZero plusZero
 unfolding fits isMinusZero
@@ -24,35 +20,35 @@ not-and : (a b : Bool) → T (not a) → T (not (a && b))
 not-and false b h = tt
 not-and true b h = absurd h
 
-pub tap-from-zero : (sum : Float) (tap : Tap) → FromZero sum → FromZero (addTap sum tap)
+pub tap-from-zero : (sum : Float) (tap : Factors) → FromZero sum → FromZero (addTap sum tap)
 unfolding addTap
 tap-from-zero sum none h = h
 tap-from-zero sum (pair x w) h =
     let p = mul binary32 x w in
     record { held = add-fits binary32 sum p; not-minus = add-not binary32 sum p (h .held) (mul-fits binary32 x w) (not-and (isMinusZero sum) (isMinusZero p) (h .not-minus)) }
 
-pub sum-from-zero : (start : Float) (taps : ℕ → Tap) (n : ℕ) → FromZero start → FromZero (sumFrom start taps n)
+pub sum-from-zero : (start : Float) (taps : ℕ → Factors) (n : ℕ) → FromZero start → FromZero (sumFrom start taps n)
 unfolding sumFrom
 sum-from-zero start taps zero h = h
 sum-from-zero start taps (suc n) h = tap-from-zero (sumFrom start taps n) (taps n) (sum-from-zero start taps n h)
 
 -- a sum that starts at +0 is never -0
-pub never-minus-zero : (taps : ℕ → Tap) (n : ℕ) → T (not (isMinusZero (sumFrom plusZero taps n)))
+pub never-minus-zero : (taps : ℕ → Factors) (n : ℕ) → T (not (isMinusZero (sumFrom plusZero taps n)))
 never-minus-zero taps n = sum-from-zero plusZero taps n zero-from-zero .not-minus
 
 -- adding +0·w to it changes no bit
-pub add-outside : (sum w : Float) → FromZero sum → T (isFinite w) → addTap sum (pair plusZero w) ≡ sum
+pub add-outside : (sum w : Float) → FromZero sum → T (finite w) → addTap sum (pair plusZero w) ≡ sum
 unfolding addTap
 add-outside sum w h k = let z = zero-times binary32 w k in rw (z .1) (add-zero-same binary32 sum (z .0) (h .held) (h .not-minus))
 
 -- a tap outside the input
-pub record Outside (tap : Tap) : Type 0 where
+pub record Outside (tap : Factors) : Type 0 where
   pub weight : Float
-  pub finite : T (isFinite weight)
+  pub finite : T (finite weight)
   pub is : tap ≡ pair plusZero weight
 
 -- a run of such taps changes no bit
-pub sum-outside : (start : Float) (taps : ℕ → Tap) (n : ℕ) → FromZero start → ((t : ℕ) → t < n → Outside (taps t)) → sumFrom start taps n ≡ start
+pub sum-outside : (start : Float) (taps : ℕ → Factors) (n : ℕ) → FromZero start → ((t : ℕ) → t < n → Outside (taps t)) → sumFrom start taps n ≡ start
 unfolding sumFrom
 sum-outside start taps zero h o = refl
 sum-outside start taps (suc n) h o =

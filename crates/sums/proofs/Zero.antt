@@ -12,16 +12,11 @@ use lib.Ieee.Digits.{size-reaches}
 use lib.Ieee.Fits.{round-fits, two, round-is, down-pos, up-pos}
 use lib.Ieee.Exact.{HasValue, odd-sign, round-exact}
 use lib.Ieee.Nearest.{closest, nearest-ge}
+use lib.Ieee.Scale.{finite}
 use Rattle.tensor.specs.Table.{plusZero}
-use Rattle.sums.specs.Finite.{isFinite}
 use Rattle.sums.proofs.Values.{multiple, unique, round-self}
+use Rattle.sums.specs.Zero.{isMinusZero}
 use Rattle.sums.proofs.Round.{size-gt, Plus, round-plus, sub-times}
-
--- whether x is -0
-unfoldable pub isMinusZero : Float → Bool
-isMinusZero nan = false
-isMinusZero (inf s) = false
-isMinusZero (fin s m e) = s && eqb m 0
 
 -- ---- a value that is not 0 is not -0
 not-zero : (s : Bool) (m : ℕ) → 0 < m → T (not (s && eqb m 0))
@@ -179,8 +174,8 @@ round-zero : (f : Format) (s : Bool) (c : ℕ) → 0 < c → round f s 0 c ≡ f
 round-zero f s c C = unique f (round f s 0 c) (fin s 0 (pos 0)) s 0 c C (round-fits f s 0 c) (zero-fit f s)
     (round-exact f s 0 c 0 0 C (pow-pos (prec f)) (pow-pos (low f + suc (emax f))) (rw (zero-mul (2 ^ low f), zero-mul c))) (refl, zero-mul c)
 
-pub zero-times : (f : Format) (w : Float) → T (isFinite w) → (s : Bool) × (mul f plusZero w ≡ fin s 0 (pos 0))
-unfolding mul isFinite
+pub zero-times : (f : Format) (w : Float) → T (finite w) → (s : Bool) × (mul f plusZero w ≡ fin s 0 (pos 0))
+unfolding mul
 zero-times f nan h = absurd h
 zero-times f (inf t) h = absurd h
 zero-times f (fin t n d) h = (unlike false t, ap (λ (x : ℕ). round f (unlike false t) x (1 * down d)) (zero-mul (n * up d)) ∙ round-zero f (unlike false t) (1 * down d) (mul-pos (zero-lt-suc 0) (down-pos d)))

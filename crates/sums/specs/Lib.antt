@@ -2,3 +2,4 @@
 pub mod Taps
 pub mod Finite
 pub mod Whole
+pub mod Zero

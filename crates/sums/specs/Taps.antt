@@ -13,30 +13,30 @@ pub data Place : Type 0 where
   outside : ℕ → Place
   at : ℕ → ℕ → Place
 
--- A tap with its values: it takes no part, or it is an input value with a weight.
-pub data Tap : Type 0 where
-  none : Tap
-  pair : Float → Float → Tap
+-- The two factors of a tap, an input value and a weight; or none where it takes no part.
+pub data Factors : Type 0 where
+  none : Factors
+  pair : Float → Float → Factors
 
--- the tap that a place is in given tensors
-unfoldable pub tapAt : List Float → List Float → Place → Tap
+-- the factors of the tap at a place, in given tensors
+unfoldable pub tapAt : List Float → List Float → Place → Factors
 tapAt input kernel missing = none
 tapAt input kernel (outside weight) = pair plusZero (read kernel weight)
 tapAt input kernel (at place weight) = pair (read input place) (read kernel weight)
 
 -- "Each product and each sum rounds once. Rounding is to the nearest f32, ties to even."
-unfoldable pub addTap : Float → Tap → Float
+unfoldable pub addTap : Float → Factors → Float
 addTap sum none = sum
 addTap sum (pair value weight) = add binary32 sum (mul binary32 value weight)
 
 -- `start`, and then the first n taps added one after another by their numbers, "all rising"
-unfoldable pub sumFrom : Float → (ℕ → Tap) → ℕ → Float
+unfoldable pub sumFrom : Float → (ℕ → Factors) → ℕ → Float
 sumFrom start taps zero = start
 sumFrom start taps (suc n) = addTap (sumFrom start taps n) (taps n)
 
 -- The two convolutions differ in their place function alone: the place of tap number t of output number j.
 -- The taps of output j:
-abbrev pub tapsOf : (ℕ → ℕ → Place) → List Float → List Float → ℕ → ℕ → Tap
+abbrev pub tapsOf : (ℕ → ℕ → Place) → List Float → List Float → ℕ → ℕ → Factors
 tapsOf place input kernel j t = tapAt input kernel (place j t)
 
 -- "output (n, group g, o, y, x) starts at +0 and adds input·weight for each tap"; transposed: "output (n, g, o, y, x) starts at +0 and adds", "Positions no tap
@@ -44,12 +44,8 @@ tapsOf place input kernel j t = tapAt input kernel (place j t)
 unfoldable pub outputOf : (ℕ → ℕ → Place) → ℕ → List Float → List Float → ℕ → Float
 outputOf place k input kernel j = sumFrom plusZero (tapsOf place input kernel j) k
 
--- the n outputs of a call, each of k taps
-unfoldable pub outputsOf : (ℕ → ℕ → Place) → ℕ → ℕ → List Float → List Float → List Float
-outputsOf place k n input kernel = tabulate (outputOf place k input kernel) n
-
 -- ---- the taps of a row: tap t has the t-th value and the t-th weight
-abbrev pub rowTaps : List Float → List Float → ℕ → Tap
+abbrev pub rowTaps : List Float → List Float → ℕ → Factors
 rowTaps values weights t = pair (read values t) (read weights t)
 
 -- ---- for proofs: a place that lies in an input of `inputs` elements and in a kernel of `weights` elements

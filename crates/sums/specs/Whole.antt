@@ -9,7 +9,7 @@ use lib.IntN.{ℤ, pos, negℤ, natAbs, _+ℤ_, _-ℤ_, _*ℤ_}
 use lib.ListN.{length}
 use lib.Ieee.{Float, nan, inf, fin, up, down}
 use Rattle.tensor.specs.Table.{read}
-use Rattle.sums.specs.Taps.{Tap, none, pair}
+use Rattle.sums.specs.Taps.{Factors, none, pair}
 
 -- "and an element is a whole number if its value is one, -0 being 0": `fin s m e` is the number ± m · 2^e, and 2^e is up e / down e.
 unfoldable pub isWhole : Float → Bool
@@ -25,7 +25,7 @@ value (fin s m e) = cond s (negℤ (pos (m * up e / down e))) (pos (m * up e / d
 
 -- "An output's products are input·weight at its taps as just given, the input being 0 at a tap outside; they are exact whole numbers taken from
 -- the call's tensors, never from a running sum." A tap that takes no part has none, which adds 0.
-unfoldable pub product : Tap → ℤ
+unfoldable pub product : Factors → ℤ
 product none = pos 0
 product (pair x w) = value x *ℤ value w
 
@@ -35,11 +35,11 @@ total f zero = pos 0
 total f (suc n) = total f n +ℤ f n
 
 -- "Its exact sum is their sum without rounding, 0 where there are none;"
-abbrev pub exactSum : (ℕ → Tap) → ℕ → ℤ
+abbrev pub exactSum : (ℕ → Factors) → ℕ → ℤ
 exactSum taps n = total (λ t. product (taps t)) n
 
 -- "their magnitudes are totalled likewise."
-unfoldable pub magnitudes : (ℕ → Tap) → ℕ → ℕ
+unfoldable pub magnitudes : (ℕ → Factors) → ℕ → ℕ
 magnitudes taps zero = 0
 magnitudes taps (suc n) = magnitudes taps n + natAbs (product (taps n))
 
@@ -54,7 +54,7 @@ small x = isWhole x && leb (natAbs (value x)) 4096
 -- Demand 3 for one output, which the call leaves as r. "K is I·KY·KX, also where fewer taps reach an output": k counts the taps that take no part too.
 -- The output is a whole number; its distance from the exact sum is at most (K - 1)(K + 2)/2; where the magnitudes total at most 16,777,216 it is the
 -- exact sum.
-pub record WholeSum (taps : ℕ → Tap) (k : ℕ) (r : Float) : Type 0 where
+pub record WholeSum (taps : ℕ → Factors) (k : ℕ) (r : Float) : Type 0 where
   pub whole : T (isWhole r)
   pub near : distance (value r) (exactSum taps k) ≤ (k - 1) * (k + 2) / 2
   pub same : magnitudes taps k ≤ 16777216 → value r ≡ exactSum taps k
@@ -66,5 +66,5 @@ abbrev pub AllSmall : List Float → Type 0
 AllSmall l = (i : ℕ) → i < length l → T (small (read l i))
 
 -- what it promises of each of the n outputs, over the same k taps of which the output is the sum
-abbrev pub AllWhole : (ℕ → ℕ → Tap) → ℕ → ℕ → List Float → Type 0
+abbrev pub AllWhole : (ℕ → ℕ → Factors) → ℕ → ℕ → List Float → Type 0
 AllWhole taps k n output = (j : ℕ) → j < n → WholeSum (taps j) k (read output j)

@@ -1,6 +1,6 @@
 -- Laws of the element check: what a good element is, what `Good` and `Bad` tell of a list, and one turn of the loop that finds them.
 use mathlib.Core.Path.{_≡_, refl}
-use mathlib.Core.Bool.{Bool, true, false, not, _&&_}
+use mathlib.Core.Bool.{Bool, true, false, not, _&&_, cond, false≢true}
 use mathlib.Core.List.{List, [], _∷_}
 use mathlib.Core.Logic.{_⊎_, inl, inr, ⊎-elim}
 use Prim.Native.Nat.{ℕ, zero, suc, _+_, _*_, _^_, _≤_, _<_, suc-le-suc}
@@ -14,9 +14,8 @@ use lib.Seq.{drop-cons, drop-length}
 use lib.Ieee.{Float, nan, inf, fin, up, down, lt, eq, le, isNan, binary32, ofBits}
 use lib.Ieee.Fits.{and-i, and-l, and-r}
 use lib.Ieee.Bits.{is-true}
-use lib.Ieee.Scale.{finite}
 use Rattle.tensor.specs.Table.{read}
-use Rattle.tensor.specs.Element.{elementOk, pick, firstBadFrom, firstBad}
+use Rattle.tensor.specs.Element.{elementOk, firstBadFrom, firstBad}
 use Rattle.tensor.specs.declared.Elements.{Elements}
 use Rattle.tensor.specs.declared.Elements.the-variants.{Good, Bad}
 use Rattle.tensor.proofs.Order.{NotNan, test-same, le-of-not-lt, not-lt-of-le}
@@ -34,12 +33,6 @@ unfolding elementOk
 element-at-most nan t = t
 element-at-most (inf s) t = t
 element-at-most (fin s m e) t = leb→le (m * up e) (2 ^ 40 * down e) t
-
-pub element-finite : (x : Float) → T (elementOk x) → T (finite x)
-unfolding elementOk
-element-finite nan t = t
-element-finite (inf s) t = t
-element-finite (fin s m e) t = tt
 
 pub element-number : (x : Float) → T (elementOk x) → NotNan x
 unfolding elementOk isNan
@@ -113,9 +106,9 @@ unfolding ofBits elementOk
 nan-bad = refl
 
 -- ---- a list: Good
-pick-good : (b : Bool) (r : Elements) (i : ℕ) → pick b r (Bad i) ≡ Good → T b × (r ≡ Good)
+pick-good : (b : Bool) (r : Elements) (i : ℕ) → cond b r (Bad i) ≡ Good → T b × (r ≡ Good)
 pick-good true r i e = (tt, e)
-pick-good false r i e = let z : _≡_ {A = ℕ} 0 1 = cc in absurd (omega arith)
+pick-good false r i e = absurd (false≢true cc)
 
 good-from : (xs : List Float) (i : ℕ) → firstBadFrom i xs ≡ Good → (k : ℕ) → k < length xs → T (elementOk (read xs k))
 unfolding firstBadFrom
@@ -148,7 +141,7 @@ record FirstBadFrom (xs : List Float) (i p : ℕ) : Type 0 where
   is : i + place ≡ p
   first : FirstBad xs place
 
-pick-bad : (b : Bool) (r : Elements) (i p : ℕ) → pick b r (Bad i) ≡ Bad p → (T b × (r ≡ Bad p)) ⊎ ((b ≡ false) × (i ≡ p))
+pick-bad : (b : Bool) (r : Elements) (i p : ℕ) → cond b r (Bad i) ≡ Bad p → (T b × (r ≡ Bad p)) ⊎ ((b ≡ false) × (i ≡ p))
 pick-bad true r i p e = inl (tt, e)
 pick-bad false r i p e = inr (refl, cc)
 
@@ -170,7 +163,7 @@ here x xs i p t e =
 
 bad-from : (xs : List Float) (i p : ℕ) → firstBadFrom i xs ≡ Bad p → FirstBadFrom xs i p
 unfolding firstBadFrom
-bad-from [] i p e = let z : _≡_ {A = ℕ} 0 1 = cc in absurd (omega arith)
+bad-from [] i p e = absurd (false≢true cc)
 bad-from (x ∷ xs) i p e =
     ⊎-elim (λ h. later x xs i p (h .0) (bad-from xs (suc i) p (h .1))) (λ h. here x xs i p (h .0) (h .1)) (pick-bad (elementOk x) (firstBadFrom (suc i) xs) i p e)
 

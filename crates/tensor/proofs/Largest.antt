@@ -1,7 +1,7 @@
 -- The fold of a window finds the first largest element.
 use mathlib.Core.Path.{_≡_, refl, sym, ap, _∙_, subst}
-use mathlib.Core.Bool.{Bool, true, false, not}
-use mathlib.Core.List.{List, [], _∷_, _++_, append-assoc}
+use mathlib.Core.Bool.{Bool, true, false, not, cond}
+use mathlib.Core.List.{List, [], _∷_, _++_, append-assoc, append-nil}
 use Prim.Native.Nat.{ℕ, zero, suc, _<_}
 use native.Mathlib.Nat.{not-suc-le-zero, le-of-suc-le-suc}
 use lib.Dec.{T}
@@ -10,26 +10,22 @@ use lib.Ieee.{Float, lt}
 use Rattle.tensor.specs.declared.Window.{Window}
 use Rattle.tensor.specs.declared.Window.the-variants.{Empty, Best}
 use Rattle.tensor.specs.Table.{read}
-use Rattle.tensor.specs.Window.{bestOf, betterOf, pickWindow, All, HoldsBest}
+use Rattle.tensor.specs.Window.{bestOf, betterOf, All, HoldsBest}
 use Rattle.tensor.proofs.Order.{NotNan, lt-trans, lt-split, le-of-not-lt}
 
--- ---- what holds of each place
-pub all-map : {P Q : ℕ → Type 0} (f : (p : ℕ) → P p → Q p) (ps : List ℕ) → All P ps → All Q ps
+-- ---- what holds of each element
+pub all-map : {A : Type 0} {P Q : A → Type 0} (f : (x : A) → P x → Q x) (xs : List A) → All P xs → All Q xs
 all-map f [] h = tt
-all-map f (p ∷ ps) h = (f p (h .0), all-map f ps (h .1))
+all-map f (x ∷ xs) h = (f x (h .0), all-map f xs (h .1))
 
-pub all-append : (P : ℕ → Type 0) (ps qs : List ℕ) → All P ps → All P qs → All P (ps ++ qs)
-all-append P [] qs h k = k
-all-append P (p ∷ ps) qs h k = (h .0, all-append P ps qs (h .1) k)
+pub all-append : {A : Type 0} (P : A → Type 0) (xs ys : List A) → All P xs → All P ys → All P (xs ++ ys)
+all-append P [] ys h k = k
+all-append P (x ∷ xs) ys h k = (h .0, all-append P xs ys (h .1) k)
 
 pub all-get : (P : ℕ → Type 0) (ps : List ℕ) → All P ps → (i : ℕ) → i < length ps → P (getD ps i 0)
 all-get P [] h i l = absurd (not-suc-le-zero l)
 all-get P (p ∷ ps) h zero l = h .0
 all-get P (p ∷ ps) h (suc i) l = all-get P ps (h .1) i (le-of-suc-le-suc l)
-
-append-nil : (ps : List ℕ) → ps ++ [] ≡ ps
-append-nil [] = refl
-append-nil (p ∷ ps) = ap (λ (l : List ℕ). p ∷ l) (append-nil ps)
 
 -- ---- the fold
 
@@ -90,7 +86,7 @@ module _ (xs : List Float) where
   one-more ps (Best v p) q h n = go (lt v (read xs q)) (λ t. replaced ps v p q h n t) (λ t. kept ps v p q h n t)
     where
       go : (b : Bool) → (T b → BestSoFar (ps ++ q ∷ []) (read xs q) q) → (T (not b) → BestSoFar (ps ++ q ∷ []) v p)
-          → Holds (ps ++ q ∷ []) (pickWindow b (Best (read xs q) q) (Best v p))
+          → Holds (ps ++ q ∷ []) (cond b (Best (read xs q) q) (Best v p))
       go true f g = f tt
       go false f g = g tt
 

@@ -1,5 +1,4 @@
 pub mod Table
-pub mod Places
 pub mod Lines
 pub mod Order
 pub mod Element

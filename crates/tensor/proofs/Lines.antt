@@ -9,7 +9,7 @@ use lib.ListN.{length, take, drop, length-append, length-drop}
 use lib.Seq.{take-at, length-take-le}
 use Rattle.tensor.specs.Table.{tabulate}
 use Rattle.tensor.proofs.Table.{tabulate-length, Filled, filled-none}
-use Rattle.tensor.proofs.Places.{part-within, place-div, div-within}
+use Rattle.layer.proofs.Places.{part-within, place-div, div-within}
 
 pub line-start : (line : ℕ) {w : ℕ} → 1 ≤ w → line * w / w ≡ line
 line-start line {w} h = ap (λ (n : ℕ). n / w) (sym (add-zero (line * w))) ∙ place-div line h

@@ -1,6 +1,6 @@
 -- Laws of the peak finder: one turn of its loop, and that its peak is the first largest element of the plane.
 use mathlib.Core.Path.{_≡_, refl, sym, ap, _∙_, subst}
-use mathlib.Core.Bool.{Bool, true, false, not, _||_, cond}
+use mathlib.Core.Bool.{Bool, true, false, not, _||_, cond, false≢true}
 use mathlib.Core.List.{List, [], _∷_, _++_}
 use Prim.Native.Nat.{ℕ, zero, suc, _+_, _-_, _*_, _/_, _%_, _≤_, _<_}
 use native.Mathlib.Nat.{div-add-mod', mod-lt, pos-of-ne-zero}
@@ -117,8 +117,8 @@ right-length : (len width : ℕ) → wrongLength len width ≡ false → (0 < wi
 right-length len width e = go (eqb width 0) (eqb len 0) refl refl e
   where
     go : (a b : Bool) → eqb width 0 ≡ a → eqb len 0 ≡ b → (a || (b || not (eqb (len % width) 0))) ≡ false → (0 < width) × (0 < len)
-    go true b p q e = let z : _≡_ {A = ℕ} 0 1 = cc in absurd (omega arith)
-    go false true p q e = let z : _≡_ {A = ℕ} 0 1 = cc in absurd (omega arith)
+    go true b p q e = absurd (false≢true cc)
+    go false true p q e = absurd (false≢true cc)
     go false false p q e = (pos-of-ne-zero (eqb-false width 0 p), pos-of-ne-zero (eqb-false len 0 q))
 
 -- where the number is 0, the peak is the first largest element

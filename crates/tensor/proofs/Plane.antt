@@ -1,27 +1,21 @@
 -- Laws of the plane picker: what its tests tell of the numbers, and where a plane's elements stand in the tensor.
-use mathlib.Core.Path.{_≡_, refl, ap, _∙_}
-use mathlib.Core.Bool.{Bool, true, false, _&&_}
+use mathlib.Core.Path.{_≡_, ap, _∙_}
+use mathlib.Core.Bool.{true, _&&_}
 use mathlib.Core.List.{List}
 use Prim.Native.Nat.{ℕ, _+_, _*_, _≤_, _<_}
 use native.Mathlib.Nat.{mul-le-mul, mul-assoc, add-mul}
 use native.Mathlib.Omega.{arith}
-use lib.Dec.{leb, ltb, eqb}
+use lib.Dec.{ltb, eqb}
 use lib.ListN.{length}
 use lib.Ieee.{Float}
-use borrow.Author.Tests.{leb-true, ltb-true, eqb-true}
-use Rattle.layer.specs.Limits.{within, imagesOk, channelsOk, sizeOk}
+use borrow.Author.Tests.{ltb-true, eqb-true}
+use Rattle.layer.specs.Limits.{imagesOk, channelsOk, sizeOk}
 use Rattle.tensor.specs.Table.{read}
 use Rattle.tensor.specs.Places.{flatPlace}
 use Rattle.tensor.specs.Plane.{sizesOk, hasPlane, planeStart, planeOf}
 use Rattle.tensor.proofs.Table.{part-read}
-use Rattle.tensor.proofs.Places.{part-within, place-within}
-
-and-true : (a b : Bool) → (a && b) ≡ true → (a ≡ true) × (b ≡ true)
-and-true true b e = (refl, e)
-and-true false b e = let z : _≡_ {A = ℕ} 0 1 = cc in absurd (omega arith)
-
-most : (hi v : ℕ) → within 1 hi v ≡ true → v ≤ hi
-most hi v e = leb-true v hi (and-true (leb 1 v) (leb v hi) e .1)
+use Rattle.layer.proofs.Places.{part-within, place-within}
+use Rattle.layer.proofs.Tests.{and-both, within-both}
 
 -- sizes within their limits have products that the code can form
 pub record SizesIn (n c y x : ℕ) : Type 0 where
@@ -33,12 +27,12 @@ pub record SizesIn (n c y x : ℕ) : Type 0 where
 pub sizes-in : (n c y x : ℕ) → sizesOk n c y x ≡ true → SizesIn n c y x
 unfolding sizesOk
 sizes-in n c y x e =
-    let a = and-true (imagesOk n) (channelsOk c && (sizeOk y && sizeOk x)) e in
-    let b = and-true (channelsOk c) (sizeOk y && sizeOk x) (a .1) in
-    let d = and-true (sizeOk y) (sizeOk x) (b .1) in
-    let p : n * c ≤ 16 * 1024 = mul-le-mul (most 16 n (a .0)) (most 1024 c (b .0)) in
-    let q : n * c * y ≤ 16384 * 4096 = mul-le-mul p (most 4096 y (d .0)) in
-    record { planes = p; rows = q; all = mul-le-mul q (most 4096 x (d .1)); plane = mul-le-mul (most 4096 y (d .0)) (most 4096 x (d .1)) }
+    let a = and-both (imagesOk n) (channelsOk c && (sizeOk y && sizeOk x)) e in
+    let b = and-both (channelsOk c) (sizeOk y && sizeOk x) (a .1) in
+    let d = and-both (sizeOk y) (sizeOk x) (b .1) in
+    let p : n * c ≤ 16 * 1024 = mul-le-mul (within-both 1 16 n (a .0) .1) (within-both 1 1024 c (b .0) .1) in
+    let q : n * c * y ≤ 16384 * 4096 = mul-le-mul p (within-both 1 4096 y (d .0) .1) in
+    record { planes = p; rows = q; all = mul-le-mul q (within-both 1 4096 x (d .1) .1); plane = mul-le-mul (within-both 1 4096 y (d .0) .1) (within-both 1 4096 x (d .1) .1) }
 
 -- a plane that is there lies within the slice
 pub record PlaneIn (len n c y x image channel : ℕ) : Type 0 where
@@ -49,9 +43,9 @@ pub record PlaneIn (len n c y x image channel : ℕ) : Type 0 where
 pub plane-in : (len n c y x image channel : ℕ) → hasPlane len n c y x image channel ≡ true → PlaneIn len n c y x image channel
 unfolding hasPlane
 plane-in len n c y x image channel e =
-    let a = and-true (sizesOk n c y x) (eqb len (n * c * y * x) && (ltb image n && ltb channel c)) e in
-    let b = and-true (eqb len (n * c * y * x)) (ltb image n && ltb channel c) (a .1) in
-    let d = and-true (ltb image n) (ltb channel c) (b .1) in
+    let a = and-both (sizesOk n c y x) (eqb len (n * c * y * x) && (ltb image n && ltb channel c)) e in
+    let b = and-both (eqb len (n * c * y * x)) (ltb image n && ltb channel c) (a .1) in
+    let d = and-both (ltb image n) (ltb channel c) (b .1) in
     let l : len ≡ n * c * (y * x) = eqb-true len (n * c * y * x) (b .0) ∙ mul-assoc (n * c) y x in
     let k : image * c + channel < n * c = place-within (ltb-true image n (d .0)) (ltb-true channel c (d .1)) in
     record { sizes = sizes-in n c y x (a .0); count = k; fits = omega (arith, part-within (y * x) k) }

@@ -1,6 +1,6 @@
 -- Number 9: the elements that an operator takes, and the first that it does not.
 use Prim.Native.Nat.{ℕ, suc, _*_, _^_}
-use mathlib.Core.Bool.{Bool, true, false}
+use mathlib.Core.Bool.{Bool, false, cond}
 use mathlib.Core.List.{List, [], _∷_}
 use lib.Dec.{leb}
 use lib.Ieee.{Float, nan, inf, fin, up, down}
@@ -14,14 +14,10 @@ elementOk nan = false
 elementOk (inf s) = false
 elementOk (fin s m e) = leb (m * up e) (2 ^ 40 * down e)
 
-abbrev pub pick : Bool → Elements → Elements → Elements
-pick true a b = a
-pick false a b = b
-
 -- the first bad element of xs, where xs begins at place i
 unfoldable pub firstBadFrom : ℕ → List Float → Elements
 firstBadFrom i [] = Good
-firstBadFrom i (x ∷ xs) = pick (elementOk x) (firstBadFrom (suc i) xs) (Bad i)
+firstBadFrom i (x ∷ xs) = cond (elementOk x) (firstBadFrom (suc i) xs) (Bad i)
 
 -- "the first place in it"
 abbrev pub firstBad : List Float → Elements

@@ -1,7 +1,7 @@
 -- "A window holds either nothing, or a best value with its place."
 use Prim.Native.Nat.{ℕ}
 use mathlib.Core.Path.{_≡_}
-use mathlib.Core.Bool.{Bool, true, false}
+use mathlib.Core.Bool.{cond}
 use mathlib.Core.List.{List, [], _∷_, _++_}
 use lib.Dec.{T}
 use lib.Ieee.{Float, lt, le}
@@ -9,15 +9,11 @@ use Rattle.tensor.specs.Table.{read, tabulate}
 use Rattle.tensor.specs.declared.Window.{Window}
 use Rattle.tensor.specs.declared.Window.the-variants.{Empty, Best}
 
-abbrev pub pickWindow : Bool → Window → Window → Window
-pickWindow true a b = a
-pickWindow false a b = b
-
 -- "The best is the largest; among equal ones, and +0 equals -0, the first .. with its own bits."
 -- A window after one more element: v at place p. `lt` is the < of f32.
 abbrev pub betterOf : Window → Float → ℕ → Window
 betterOf Empty v p = Best v p
-betterOf (Best b q) v p = pickWindow (lt b v) (Best v p) (Best b q)
+betterOf (Best b q) v p = cond (lt b v) (Best v p) (Best b q)
 
 -- the window w after the elements of xs at the places ps, in their order
 unfoldable pub bestOf : List Float → List ℕ → Window → Window
@@ -30,10 +26,10 @@ upTo n = tabulate (λ k. k) n
 
 -- ---- the same without the fold, for the law that the fold finds it
 
--- P holds of each place
-abbrev pub All : (ℕ → Type 0) → List ℕ → Type 0
+-- P holds of each element of a list
+abbrev pub All : {A : Type 0} → (A → Type 0) → List A → Type 0
 All P [] = Unit {0}
-All P (p ∷ ps) = P p × All P ps
+All P (x ∷ xs) = P x × All P xs
 
 -- v, at place p, is the first largest of the elements of xs at the places ps
 pub record FirstLargest (xs : List Float) (ps : List ℕ) (v : Float) (p : ℕ) : Type 0 where

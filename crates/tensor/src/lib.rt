@@ -1,25 +1,16 @@
-// Tensors: places of elements, the element check, the best of a window, the plane picker and the peak finder.
+// Tensors: the element check, the best of a window, the plane picker and the peak finder.
 use layer::channels_ok;
 use layer::images_ok;
 use layer::size_ok;
 ghost use Prim.Native.Nat.{_+_, _*_, _/_, _%_, _≤_};
 ghost use mathlib.Core.Path.{_≡_};
 ghost use lib.ListN.{length};
-ghost use Rattle.tensor.specs.Places.{positionOf};
 ghost use Rattle.tensor.specs.Element.{elementOk, firstBad};
 ghost use Rattle.tensor.specs.Window.{betterOf, bestOf, upTo};
 ghost use Rattle.tensor.specs.Plane.{sizesOk, hasPlane, partOf, planeOf};
 ghost use Rattle.tensor.specs.Peak.{noPeak, wrongLength, peakAt, peakOf};
 
-// ---- places
-
-// Where an element of a tensor [N, C, Y, X] stands.
-pub struct Position {
-    pub image: usize,
-    pub channel: usize,
-    pub row: usize,
-    pub column: usize,
-}
+// ---- division by any number
 
 // a / b, and 0 where b is 0.
 fn quotient(a: usize, b: usize) -> usize
@@ -39,20 +30,6 @@ fn remainder(a: usize, b: usize) -> usize
         return a;
     }
     a % b
-}
-
-// The position of a flat place.
-pub fn position_of(channels: usize, height: usize, width: usize, place: usize) -> Position
-    ensures { λ r. ⌜ r ≡ positionOf channels height width place ⌝ }
-{
-    let rows = quotient(place, width);
-    let planes = quotient(rows, height);
-    Position {
-        image: quotient(planes, channels),
-        channel: remainder(planes, channels),
-        row: remainder(rows, height),
-        column: remainder(place, width),
-    }
 }
 
 // ---- the element check
