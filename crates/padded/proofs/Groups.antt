@@ -13,7 +13,7 @@ use Rattle.tensor.proofs.Table.{part-length, part-read}
 use Rattle.sums.specs.Taps.{pair}
 use Rattle.rows.specs.Rows.{Summed, across, held}
 use Rattle.rows.proofs.Rows.{summed-part, summed-more, summed-same}
-use Rattle.padded.specs.Padded.{columnValue, columnsBefore, Before, paddedTaps}
+use Rattle.padded.specs.Padded.{columnValue, columnsBefore, Before, paddedTaps, longestRow, groupStart, lastColumn}
 use Rattle.padded.proofs.Values.{value-inside}
 
 -- ---- how many columns lie before an end
@@ -31,17 +31,17 @@ columns-before {q} {stride} {end} {n} {r} s e =
 -- the last tap's distance from the first, and the columns' end, are small
 pub record GroupSmall (stride dilation q taps n : ℕ) : Type 0 where
   pub last : (taps - 1) * dilation ≤ 1024
-  pub end : q + n * stride ≤ 1066768
+  pub end : q + n * stride ≤ lastColumn
 
-pub group-small : (stride dilation q taps n : ℕ) → stride ≤ 16 → dilation ≤ 16 → taps ≤ 64 → n ≤ 66544 → q ≤ 2064 → GroupSmall stride dilation q taps n
+pub group-small : (stride dilation q taps n : ℕ) → stride ≤ 16 → dilation ≤ 16 → taps ≤ 64 → n ≤ longestRow → q ≤ groupStart → GroupSmall stride dilation q taps n
 group-small stride dilation q taps n s d t m h =
     record {
       last = mul-le-mul {n₂ = 64} {m₂ = 16} (omega arith) d;
-      end = omega (arith, mul-le-mul {n₂ = 66544} {m₂ = 16} m s);
+      end = omega (arith, mul-le-mul {n₂ = longestRow} {m₂ = 16} m s);
     }
 
 -- so are the columns of a part of the outputs
-pub part-small : (q stride w v : ℕ) (l : List Float) → w ≤ v → q + v * stride ≤ 1066768 → q + length (take w l) * stride ≤ 1066768
+pub part-small : (q stride w v : ℕ) (l : List Float) → w ≤ v → q + v * stride ≤ lastColumn → q + length (take w l) * stride ≤ lastColumn
 part-small q stride w v l h k = omega (arith, mul-le-mul-right {m = length (take w l)} {n = v} stride (rw length-take (omega arith)))
 
 -- the first tap of output lo and the last tap of output hi - 1 lie in the row

@@ -5,42 +5,26 @@ use Prim.Native.Nat.{ℕ, _≤_}
 use borrow.Author.Tests.{leb-true, le-leb}
 use lib.Dec.{leb}
 use Rattle.layer.proofs.Tests.{and-both, and-of}
-use Rattle.padded.specs.Padded.{sumLimits, rowLimits}
-
-pub record SumLimited (begin dilation first taps : ℕ) : Type 0 where
-  pub begin-max : begin ≤ 1024
-  pub dilation-max : dilation ≤ 16
-  pub first-max : first ≤ 1066768
-  pub taps-max : taps ≤ 64
+use Rattle.padded.specs.Padded.{longestRow, rowStart, lastColumn, sumLimits, SumLimited, rowLimits, RowLimited}
 
 module _ (begin dilation first taps : ℕ) where
   pub sum-within : sumLimits begin dilation first taps ≡ true → SumLimited begin dilation first taps
   sum-within e =
-      let a = and-both (leb begin 1024 && leb dilation 16 && leb first 1066768) (leb taps 64) e in
-      let b = and-both (leb begin 1024 && leb dilation 16) (leb first 1066768) (a .0) in
+      let a = and-both (leb begin 1024 && leb dilation 16 && leb first lastColumn) (leb taps 64) e in
+      let b = and-both (leb begin 1024 && leb dilation 16) (leb first lastColumn) (a .0) in
       let c = and-both (leb begin 1024) (leb dilation 16) (b .0) in
       record { begin-max = leb-true _ _ (c .0); dilation-max = leb-true _ _ (c .1); first-max = leb-true _ _ (b .1); taps-max = leb-true _ _ (a .1) }
 
-  pub within-sum : begin ≤ 1024 → dilation ≤ 16 → first ≤ 1066768 → taps ≤ 64 → sumLimits begin dilation first taps ≡ true
+  pub within-sum : begin ≤ 1024 → dilation ≤ 16 → first ≤ lastColumn → taps ≤ 64 → sumLimits begin dilation first taps ≡ true
   within-sum b d f t = and-of _ _ (and-of _ _ (and-of _ _ (le-leb _ _ b) (le-leb _ _ d)) (le-leb _ _ f)) (le-leb _ _ t)
-
-pub record RowLimited (begin stride dilation q len taps n : ℕ) : Type 0 where
-  pub stride-1 : 1 ≤ stride
-  pub stride-16 : stride ≤ 16
-  pub begin-max : begin ≤ 1024
-  pub dilation-max : dilation ≤ 16
-  pub q-max : q ≤ 1040
-  pub len-max : len ≤ 4096
-  pub taps-max : taps ≤ 64
-  pub n-max : n ≤ 66544
 
 module _ (begin stride dilation q len taps n : ℕ) where
   pub row-within : rowLimits begin stride dilation q len taps n ≡ true → RowLimited begin stride dilation q len taps n
   row-within e =
-      let a = and-both (leb 1 stride && leb stride 16 && leb begin 1024 && leb dilation 16 && leb q 1040 && leb len 4096 && leb taps 64) (leb n 66544) e in
-      let b = and-both (leb 1 stride && leb stride 16 && leb begin 1024 && leb dilation 16 && leb q 1040 && leb len 4096) (leb taps 64) (a .0) in
-      let c = and-both (leb 1 stride && leb stride 16 && leb begin 1024 && leb dilation 16 && leb q 1040) (leb len 4096) (b .0) in
-      let d = and-both (leb 1 stride && leb stride 16 && leb begin 1024 && leb dilation 16) (leb q 1040) (c .0) in
+      let a = and-both (leb 1 stride && leb stride 16 && leb begin 1024 && leb dilation 16 && leb q rowStart && leb len 4096 && leb taps 64) (leb n longestRow) e in
+      let b = and-both (leb 1 stride && leb stride 16 && leb begin 1024 && leb dilation 16 && leb q rowStart && leb len 4096) (leb taps 64) (a .0) in
+      let c = and-both (leb 1 stride && leb stride 16 && leb begin 1024 && leb dilation 16 && leb q rowStart) (leb len 4096) (b .0) in
+      let d = and-both (leb 1 stride && leb stride 16 && leb begin 1024 && leb dilation 16) (leb q rowStart) (c .0) in
       let f = and-both (leb 1 stride && leb stride 16 && leb begin 1024) (leb dilation 16) (d .0) in
       let g = and-both (leb 1 stride && leb stride 16) (leb begin 1024) (f .0) in
       let h = and-both (leb 1 stride) (leb stride 16) (g .0) in

@@ -2,7 +2,7 @@
 use mathlib.Core.Path.{_≡_, refl, sym, ap, _∙_}
 use mathlib.Core.List.{List}
 use mathlib.Core.Bool.{Bool, true, false, _&&_, cond}
-use Prim.Native.Nat.{ℕ, _+_, _-_, _*_, _≤_, _<_, min}
+use Prim.Native.Nat.{ℕ, _+_, _-_, _≤_, _<_, min}
 use native.Mathlib.Nat.{mul-one}
 use native.Mathlib.Omega.{arith}
 use borrow.Author.Tests.{ltb-true, leb-true, eqb-true, le-leb, lt-ltb}
@@ -15,7 +15,7 @@ use Rattle.tensor.specs.Table.{read, plusZero}
 use Rattle.tensor.proofs.Table.{part-length, part-read}
 use Rattle.sums.specs.Taps.{pair, sumFrom, rowTaps}
 use Rattle.sums.proofs.Sums.{sum-same}
-use Rattle.padded.specs.Padded.{columnValue}
+use Rattle.padded.specs.Padded.{columnValue, columnTaps}
 
 -- the column test on a whole row
 pub row-value : (l : List Float) (start n begin q : ℕ) → start + n ≤ length l → columnValue (take n (drop start l)) begin q ≡ cond (inside begin n q) (read l (start + (q - begin))) plusZero
@@ -63,7 +63,7 @@ inside-value row begin first n k h l m =
 -- so their sum is that of the row's part
 pub inside-sum : (sum : Float) (row weights : List Float) (dilation begin first : ℕ) → RowInside dilation begin first (length weights) (length row)
     → let part = take (first + length weights - begin - (first - begin)) (drop (first - begin) row) in sumFrom sum (rowTaps part weights) (min (length part) (length weights))
-    ≡ sumFrom sum (λ k. pair (columnValue row begin (first + k * dilation)) (read weights k)) (length weights)
+    ≡ sumFrom sum (columnTaps row weights begin dilation first) (length weights)
 inside-sum sum row weights dilation begin first h =
     let n : first + length weights - begin - (first - begin) ≡ length weights = omega (arith, h .start) in
     let m : min (length weights) (length weights) ≡ length weights = omega arith in

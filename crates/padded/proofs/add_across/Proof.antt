@@ -3,7 +3,6 @@ use borrow.Author.Needs.{needs}
 use borrow.Author.Tests.{not-true, not-false}
 use mathlib.Core.Path.{_≡_, sym, _∙_}
 use mathlib.Core.Bool.{true}
-use native.Mathlib.Omega.{arith}
 use lib.ListN.{length}
 use denote.Ref.{now}
 use Rattle.rows.proofs.Rows.{summed-start}
@@ -22,7 +21,7 @@ held c = sym (c .before .row-limits .ensures) ∙ not-false _ (c .if1 .left)
 add-row-requires : tie.Need-add-row-requires
 add-row-requires c κs =
     let a = c .before .before .before .before .before .before .args in
-    omega (arith, row-within (a .begin) (a .stride) (a .dilation) (a .q) (length (now (a .row))) (length (now (a .weights))) (length (now (a .out))) (held (c .before)))
+    row-within (a .begin) (a .stride) (a .dilation) (a .q) (length (now (a .row))) (length (now (a .weights))) (length (now (a .out))) (held (c .before))
 
 returns-2 : tie.Need-returns-2
 returns-2 c = rw (held (c .before .before .before .before)) (c .before .before .add-row .ensures)

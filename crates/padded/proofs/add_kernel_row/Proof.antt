@@ -14,16 +14,16 @@ use Rattle.padded.proofs.add_kernel_row.Statement.{statement}
 use Rattle.padded.proofs.add_kernel_row.Tie as tie
 
 abbrev Inv-loop : tie.InvT-loop
-Inv-loop out₀ row weights begin stride dilation q n k₀ out k =
-    (k ≤ length weights) × Summed (paddedTaps row weights begin stride dilation q) k (length out₀) out₀ out
+Inv-loop out₀ row weights stride c n k₀ out k =
+    (k ≤ length weights) × Summed (paddedTaps row weights (c .begin) stride (c .dilation) (c .first)) k (length out₀) out₀ out
 
 abbrev μ-loop : tie.MeasureT-loop
-μ-loop out₀ row weights begin stride dilation q n k₀ out k = length weights - k
+μ-loop out₀ row weights stride c n k₀ out k = length weights - k
 
 loop-holds : tie.Need-loop-holds Inv-loop μ-loop
 loop-holds c = (search needs, summed-start _ _ _)
 
-small : (c : tie.In-loop Inv-loop μ-loop) → c .before .loop .k * c .before .before .before .before .before .args .dilation ≤ 1024
+small : (c : tie.In-loop Inv-loop μ-loop) → c .before .loop .k * c .before .before .before .before .before .args .c .dilation ≤ 1024
 small c = mul-le-mul {n₂ = 64} {m₂ = 16} (omega arith) (omega arith)
 
 -- the length of the weights' part
@@ -33,21 +33,21 @@ part c = part-length (c .before .before .before .before .before .before .args .w
 
 add-group-requires : tie.Need-add-group-requires Inv-loop μ-loop
 add-group-requires c κs =
-    let i = c .before .before .before in
-    let e = part (c .before .before) in
-    let m = c .before .before .least .ensures in
-    (search needs, (rw e (omega arith), (rw e (omega arith), (search needs, (omega (arith, i .before .loop .inv .1 .kept), omega (arith, small i))))))
+    let p = c .before .before .before .before .before in
+    let e = part p in
+    let m = p .least .ensures in
+    rw (c .before .before .from-column .ensures) (search needs, (rw e (omega arith), (rw e (omega arith), (search needs, (omega (arith, p .before .before .loop .inv .1 .kept), omega (arith, small (p .before)))))))
 
 loop-again : tie.Need-loop-again Inv-loop μ-loop
 loop-again c =
-    let e = c .before .before .before .before .before in
+    let e = c .before .before .before .before .before .before .before .before in
     let l = e .before .before .loop in
     let a = e .before .before .before .before .before .before .args in
     let m = e .least .ensures in
     let h = l .inv .1 .kept in (
       omega arith,
-      taps-more (a .row .now) (a .weights .now) (a .begin) (a .stride) (a .dilation) (a .q) (l .k) (e .least .result) (omega arith) (omega arith) (omega arith) (l .inv .1)
-          (rw h at (c .before .before .add-group .ensures)),
+      taps-more (a .row .now) (a .weights .now) (a .c .begin) (a .stride) (a .c .dilation) (a .c .first) (l .k) (e .least .result) (omega arith) (omega arith) (omega arith) (l .inv .1)
+          (rw (h, c .before .before .before .before .before .from-column .ensures) at (c .before .before .add-group .ensures)),
     )
 
 returns : tie.Need-returns Inv-loop μ-loop
@@ -59,6 +59,6 @@ pub add-kernel-row-spec : {M : Type 1} → statement M
 add-kernel-row-spec =
     tie.close
     (tie.spec
-    Inv-loop μ-loop loop-holds (λ c. search needs) (λ c κs. search needs) (λ c. search needs) (λ c. search needs)
-    (λ c. search needs) (λ c. search needs) (λ c. omega (arith, small (c .before .before .before))) (λ c. omega (arith, small (c .before .before .before))) add-group-requires
+    Inv-loop μ-loop loop-holds (λ c. search needs) (λ c κs. search needs) (λ c. omega (arith, small (c .before .before))) (λ c. omega (arith, small (c .before .before .before))) (λ c κs. search needs) (λ c. search needs)
+    (λ c. search needs) (λ c. search needs) (λ c. search needs) add-group-requires
     (λ c. search needs) loop-again (λ c. c .before .loop .inv .1 .kept) returns)

@@ -21,8 +21,9 @@ returns c =
 add-each-requires : tie.Need-add-each-requires
 add-each-requires c κs =
     let a = c .before .before .before .before .before .before in
-    let small = group-small (a .args .stride) (a .args .dilation) (a .args .q) (length (a .args .weights .now)) (length (a .args .out .now)) (a .pre .0 .1 .0) (a .pre .0 .1 .1 .0) (a .pre .1 .0) (a .pre .1 .1 .1 .0) (omega (arith, a .pre .1 .1 .1 .1)) in
-    (a .pre .1 .0, (a .pre .0 .1 .1 .0, (small .end, a .pre .0 .1 .1 .1)))
+    let p = a .pre in
+    let small = group-small (a .args .stride) (a .args .c .dilation) (a .args .c .first) (length (a .args .weights .now)) (length (a .args .out .now)) (p .stride-16) (p .dilation-max) (p .taps-max) (p .n-max) (omega (arith, p .q-max)) in
+    record { begin-max = p .begin-max; dilation-max = p .dilation-max; first-max = small .end; taps-max = p .taps-max }
 
 pub add-row-spec : {M : Type 1} → statement M
 add-row-spec =

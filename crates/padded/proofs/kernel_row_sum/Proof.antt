@@ -3,7 +3,6 @@ use borrow.Author.Needs.{needs}
 use borrow.Author.Tests.{not-true, not-false}
 use mathlib.Core.Path.{_≡_, sym, _∙_}
 use mathlib.Core.Bool.{true}
-use native.Mathlib.Omega.{arith}
 use lib.ListN.{length}
 use denote.Ref.{now}
 use Rattle.sums.proofs.Sums.{sum-start}
@@ -19,7 +18,7 @@ held : (c : tie.Else1) → let a = c .before .before .before .before .args in su
 held c = sym (c .before .sum-limits .ensures) ∙ not-false _ (c .if1 .left)
 
 row-taps-sum-requires : tie.Need-row-taps-sum-requires
-row-taps-sum-requires c κs = let a = c .before .before .before .before .args in omega (arith, sum-within (a .begin) (a .dilation) (a .first) (length (now (a .weights))) (held c))
+row-taps-sum-requires c κs = let a = c .before .before .before .before .args in sum-within (a .begin) (a .dilation) (a .first) (length (now (a .weights))) (held c)
 
 returns-2 : tie.Need-returns-2
 returns-2 c = rw (held (c .before)) (c .row-taps-sum .ensures)
