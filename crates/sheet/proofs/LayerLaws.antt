@@ -2,7 +2,7 @@
 use Prim.Native.Nat.{ℕ, _+_}
 use mathlib.Core.Path.{_≡_, refl, sym, ap}
 use mathlib.Core.Logic.{_⊎_, inl, inr, ⊎-elim}
-use mathlib.Core.Bool.{Bool, true, false, cond, not, _&&_}
+use mathlib.Core.Bool.{Bool, true, false, cond, not, _&&_, false≢true}
 use native.Mathlib.Omega.{arith}
 use lib.Dec.{eqb}
 use borrow.Author.Tests.{eq-eqb, ne-eqb, eqb-true}
@@ -15,7 +15,7 @@ use Rattle.layer.specs.declared.Op.{Op}
 use Rattle.layer.specs.declared.Op.the-variants.{Convolution, Transposed, MaxPool}
 use Rattle.layer.specs.declared.Axis.{Axis}
 use Rattle.layer.specs.declared.Layer.{Layer}
-use Rattle.sheet.specs.Layers.{inputCount, kernelCount, kernelOf, lastOf, yAxis, sizedLayer, paddedLayer, pairList, inputList, kernelList}
+use Rattle.sheet.specs.Layers.{inputNumbers, kernelNumbers, kernelOf, lastOf, yAxis, sizedLayer, paddedLayer, pairList, inputList, kernelList}
 use Rattle.sheet.specs.Writer.{badAxes, hides, hidesSizes}
 use Rattle.sheet.proofs.Fits.{U32}
 use Rattle.sheet.proofs.WriterLaws.{Passed}
@@ -27,7 +27,7 @@ unfolding OneTwo
 pair-inverse axes (inl e) = list-inverse axes 0 e (omega arith)
 pair-inverse axes (inr e) = list-inverse axes 1 e (omega arith)
 
-pub input-inverse : (axes : ℕ) → OneTwo axes → Inverse (numbers (inputCount axes)) (showNumbers (inputCount axes)) (ListOk (inputCount axes))
+pub input-inverse : (axes : ℕ) → OneTwo axes → Inverse (numbers (inputNumbers axes)) (showNumbers (inputNumbers axes)) (ListOk (inputNumbers axes))
 unfolding OneTwo
 input-inverse axes (inl e) = list-inverse (axes + 2) 2 (omega arith) (omega arith)
 input-inverse axes (inr e) = list-inverse (axes + 2) 3 (omega arith) (omega arith)
@@ -38,7 +38,7 @@ more-inverse axes (inl e) = list-inverse (axes + 3) 3 (omega arith) (omega arith
 more-inverse axes (inr e) = list-inverse (axes + 3) 4 (omega arith) (omega arith)
 
 pub kernel-inverse : (op : Op) (axes : ℕ) → OneTwo axes
-    → Inverse (numbers (kernelCount op axes)) (showNumbers (kernelCount op axes)) (ListOk (kernelCount op axes))
+    → Inverse (numbers (kernelNumbers op axes)) (showNumbers (kernelNumbers op axes)) (ListOk (kernelNumbers op axes))
 kernel-inverse Convolution axes o = more-inverse axes o
 kernel-inverse Transposed axes o = more-inverse axes o
 kernel-inverse MaxPool axes o = pair-inverse axes o
@@ -62,7 +62,7 @@ module _ (axes : ℕ) (o : OneTwo axes) where
       go (inl e) = rw e (record { a = k; b = omega arith; c = omega arith; d = omega arith; e = omega arith }, refl)
       go (inr e) = rw e (record { a = h; b = k; c = omega arith; d = omega arith; e = omega arith }, refl)
 
-  pub input-ok : (n c y x : ℕ) → U32 n → U32 c → U32 y → U32 x → ListOk (inputCount axes) (inputList axes n c y x)
+  pub input-ok : (n c y x : ℕ) → U32 n → U32 c → U32 y → U32 x → ListOk (inputNumbers axes) (inputList axes n c y x)
   unfolding OneTwo
   input-ok n c y x hn hc h k = (input-range axes n c y x hn hc h k, go o)
     where
@@ -70,11 +70,11 @@ module _ (axes : ℕ) (o : OneTwo axes) where
       go (inl e) = rw e
       go (inr e) = rw e
 
-  pub kernel-ok : (op : Op) (g o i y x : ℕ) → U32 g → U32 o → U32 i → U32 y → U32 x → ListOk (kernelCount op axes) (kernelList op axes g o i y x)
+  pub kernel-ok : (op : Op) (g o i y x : ℕ) → U32 g → U32 o → U32 i → U32 y → U32 x → ListOk (kernelNumbers op axes) (kernelList op axes g o i y x)
   unfolding OneTwo
   kernel-ok op g o′ i y x hg ho hi h k = go op o
     where
-      go : (op : Op) → (axes ≡ 1) ⊎ (axes ≡ 2) → ListOk (kernelCount op axes) (kernelList op axes g o′ i y x)
+      go : (op : Op) → (axes ≡ 1) ⊎ (axes ≡ 2) → ListOk (kernelNumbers op axes) (kernelList op axes g o′ i y x)
       go Convolution (inl e) = rw e (record { a = hg; b = ho; c = hi; d = k; e = omega arith }, refl)
       go Convolution (inr e) = rw e (record { a = hg; b = ho; c = hi; d = h; e = k }, refl)
       go Transposed (inl e) = rw e (record { a = hg; b = omega (arith, ho, hi); c = omega (arith, ho, hi); d = k; e = omega arith }, refl)
@@ -89,7 +89,7 @@ good-axes axes e = go (eqb axes 1) (eqb axes 2) refl refl e
     go : (a b : Bool) → eqb axes 1 ≡ a → eqb axes 2 ≡ b → not a && not b ≡ false → (axes ≡ 1) ⊎ (axes ≡ 2)
     go true b p q r = inl (eqb-true axes 1 p)
     go false true p q r = inr (eqb-true axes 2 q)
-    go false false p q r = let z : _≡_ {A = ℕ} 0 1 = cc in absurd (omega arith)
+    go false false p q r = absurd (false≢true cc)
 
 pub not-bad-axes : (axes : ℕ) → OneTwo axes → badAxes axes ≡ false
 unfolding OneTwo
@@ -99,19 +99,19 @@ not-bad-axes axes (inr e) = rw e
 -- a test that a value is at its default, where it must be
 must : (b d : Bool) → b && not d ≡ false → b ≡ true → d ≡ true
 must true true e q = refl
-must true false e q = let z : _≡_ {A = ℕ} 0 1 = cc in absurd (omega arith)
-must false d e q = let z : _≡_ {A = ℕ} 0 1 = cc in absurd (omega arith)
+must true false e q = absurd (false≢true cc)
+must false d e q = absurd (false≢true cc)
 
 pub unless : (u d : Bool) → not u && not d ≡ false → u ≡ false → d ≡ true
-unless true d e q = let z : _≡_ {A = ℕ} 0 1 = cc in absurd (omega arith)
+unless true d e q = absurd (false≢true cc)
 unless false true e q = refl
-unless false false e q = let z : _≡_ {A = ℕ} 0 1 = cc in absurd (omega arith)
+unless false false e q = absurd (false≢true cc)
 
 three : (a b c : Bool) → a && b && c ≡ true → (a ≡ true) × (b ≡ true) × (c ≡ true)
 three true true true e = (refl, refl, refl)
-three true true false e = let z : _≡_ {A = ℕ} 0 1 = cc in absurd (omega arith)
-three true false c e = let z : _≡_ {A = ℕ} 0 1 = cc in absurd (omega arith)
-three false b c e = let z : _≡_ {A = ℕ} 0 1 = cc in absurd (omega arith)
+three true true false e = absurd (false≢true cc)
+three true false c e = absurd (false≢true cc)
+three false b c e = absurd (false≢true cc)
 
 shown-y : (axes y d : ℕ) → hides axes y d ≡ false → axes ≡ 1 → y ≡ d
 shown-y axes y d e q = eqb-true y d (must (eqb axes 1) (eqb y d) e (eq-eqb axes 1 q))
@@ -185,17 +185,17 @@ module _ (axes : ℕ) (o : OneTwo axes) where
       ⊎-elim (λ (e : axes ≡ 1). rw e (numbers-kept 0 f (omega arith))) (λ (e : axes ≡ 2). rw (e, h e) (numbers-kept 1 f (omega arith))) o
 
   pub input-text : (φ : Axis → ℕ) (f : Five) (unused used : Axis) → (axes ≡ 2 → φ used ≡ f .c)
-      → showNumbers (inputCount axes) (inputList axes (f .a) (f .b) (φ (yAxis axes unused used)) (lastOf axes (f .c) (f .d)))
-      ≡ showNumbers (inputCount axes) f
+      → showNumbers (inputNumbers axes) (inputList axes (f .a) (f .b) (φ (yAxis axes unused used)) (lastOf axes (f .c) (f .d)))
+      ≡ showNumbers (inputNumbers axes) f
   unfolding OneTwo
   input-text φ f unused used h =
       ⊎-elim (λ (e : axes ≡ 1). rw e (numbers-kept 2 f (omega arith))) (λ (e : axes ≡ 2). rw (e, h e) (numbers-kept 3 f (omega arith))) o
 
   pub kernel-text : (op : Op) (φ : Axis → ℕ) (f : Five) (unused used : Axis) → (axes ≡ 2 → φ used ≡ kernelOf op f .first)
-      → showNumbers (kernelCount op axes)
+      → showNumbers (kernelNumbers op axes)
       (kernelList op axes (kernelOf op f .g) (kernelOf op f .o) (kernelOf op f .i) (φ (yAxis axes unused used))
       (lastOf axes (kernelOf op f .first) (kernelOf op f .second)))
-      ≡ showNumbers (kernelCount op axes) f
+      ≡ showNumbers (kernelNumbers op axes) f
   unfolding OneTwo
   kernel-text Convolution φ f unused used h =
       ⊎-elim (λ (e : axes ≡ 1). rw e (numbers-kept 3 f (omega arith))) (λ (e : axes ≡ 2). rw (e, h e) (numbers-kept 4 f (omega arith))) o

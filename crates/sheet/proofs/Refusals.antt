@@ -15,7 +15,7 @@ use Rattle.text.specs.Lines.{Parsed, got, bad, keyLine}
 use Rattle.text.proofs.LineLaws.{line-refused}
 use Rattle.layer.specs.declared.Layer.{Layer}
 use Rattle.sheet.specs.Values.{opWords, autoPadWords, roundingWords, axesNumber, axisNumber}
-use Rattle.sheet.specs.Layers.{inputCount, kernelCount}
+use Rattle.sheet.specs.Layers.{inputNumbers, kernelNumbers}
 use Rattle.sheet.specs.Reader.{opLine, axesLine, listLine, autoPadLine, anyRounding, anyAxis, unlessUsed, paddingLine, roundingLine, axisLine, after, ended, readPads, readSheet}
 use Rattle.sheet.specs.declared.Read.{Read}
 use Rattle.sheet.specs.declared.Read.the-variants.{Sheet, Refused}
@@ -85,8 +85,8 @@ unfolding readSheet opLine axesLine
 sheet-numbered s =
     after-numbered 1 _ _ (line-numbered (text "op=") (lookup opWords) 22 s 0 not-22) λ op at₁.
     after-numbered 2 _ _ (line-numbered (text "axes=") axesNumber 21 s at₁ not-21) λ axes at₂.
-    after-numbered 3 _ _ (list-numbered (text "input=") (inputCount axes) s at₂) λ input at₃.
-    after-numbered 4 _ _ (list-numbered (text "kernel=") (kernelCount op axes) s at₃) λ kernel at₄.
+    after-numbered 3 _ _ (list-numbered (text "input=") (inputNumbers axes) s at₂) λ input at₃.
+    after-numbered 4 _ _ (list-numbered (text "kernel=") (kernelNumbers op axes) s at₃) λ kernel at₄.
     after-numbered 5 _ _ (list-numbered (text "strides=") axes s at₄) λ strides at₅.
     after-numbered 6 _ _ (list-numbered (text "dilations=") axes s at₅) λ dilations at₆.
     pads-numbered _ s at₆

@@ -2,7 +2,7 @@
 use Prim.Native.Nat.{ℕ, _+_, _≤_}
 use mathlib.Core.Path.{_≡_, refl, sym, ap, _∙_}
 use mathlib.Core.List.{List, [], _∷_, _++_, append-nil}
-use mathlib.Core.Bool.{Bool, true, false, cond, not, _&&_}
+use mathlib.Core.Bool.{Bool, true, false, cond, not, _&&_, false≢true}
 use mathlib.Core.Option.{Option}
 use native.Mathlib.Omega.{arith}
 use lib.Dec.{eqb, leb}
@@ -17,15 +17,16 @@ use Rattle.text.specs.Lines.{Parsed, got, bad, keyLine, showLine}
 use Rattle.text.specs.Inverse.{Inverse}
 use Rattle.text.specs.declared.Five.{Five}
 use Rattle.text.proofs.LineLaws.{line-value, line-written-read, line-read-written}
+use Rattle.layer.proofs.Tests.{and-both}
 use Rattle.layer.specs.Kinds.{isPool, isTransposed}
 use Rattle.layer.specs.declared.Op.{Op}
 use Rattle.layer.specs.declared.AutoPad.{AutoPad}
 use Rattle.layer.specs.declared.Rounding.{Rounding}
 use Rattle.layer.specs.declared.Axis.{Axis}
 use Rattle.layer.specs.declared.Layer.{Layer}
-use Rattle.layer.specs.Defaults.{isDefaultRounding, isDefaultAxis}
+use Rattle.layer.specs.Defaults.{isDefaultRounding, isDefaultAxisAttribute}
 use Rattle.sheet.specs.Values.{opWords, autoPadWords, roundingWords, axesNumber, axisNumber, showAxis}
-use Rattle.sheet.specs.Layers.{inputCount, kernelCount, lastOf, yAxis, sizedLayer, paddedLayer, pairList}
+use Rattle.sheet.specs.Layers.{inputNumbers, kernelNumbers, lastOf, yAxis, sizedLayer, paddedLayer, pairList}
 use Rattle.sheet.specs.Reader.{opLine, axesLine, listLine, autoPadLine, anyRounding, anyAxis, unlessUsed, noPadding, paddingLine, roundingLine, axisLine, after, ended, readPads, readSheet}
 use Rattle.sheet.specs.Writer.{showPads, showSheet, faults, first, faultOf, written, notWritten, answer, writeSheet, leave, bufferAfter}
 use Rattle.sheet.specs.declared.Fault.{Fault}
@@ -62,13 +63,8 @@ used-or-default u d x v h m e = rw e (go u refl)
     go true q = rw q
     go false q = rw (q, h q)
 
-two : (a b : Bool) → a && b ≡ true → (a ≡ true) × (b ≡ true)
-two true true e = (refl, refl)
-two true false e = let z : _≡_ {A = ℕ} 0 1 = cc in absurd (omega arith)
-two false b e = let z : _≡_ {A = ℕ} 0 1 = cc in absurd (omega arith)
-
 no-padding : (axes y x : ℕ) → eqb y 0 && eqb x 0 ≡ true → noPadding (pairList axes y x) ≡ true
-no-padding axes y x e = let t = two (eqb y 0) (eqb x 0) e in go (eqb axes 1) (t .0) (t .1)
+no-padding axes y x e = let t = and-both (eqb y 0) (eqb x 0) e in go (eqb axes 1) (t .0) (t .1)
   where
     go : (b : Bool) → eqb y 0 ≡ true → eqb x 0 ≡ true
         → noPadding (cond b (record { a = x; b = 0; c = 0; d = 0; e = 0 }) (record { a = y; b = x; c = 0; d = 0; e = 0 })) ≡ true
@@ -101,7 +97,7 @@ module _ (l : Layer) (p : Passed l) (f : LayerFits l) where
       (used-or-default (isPool (l .op)) isDefaultRounding _ _ (unless (isPool (l .op)) (isDefaultRounding (l .rounding)) (p .used-rounding))) _ (Sheet l) λ at₁₁ h₁₁ b₁₁.
       there (text "axis=") axisNumber 21 axis-inverse 12 (l .axis) (p .axis) [] s at₁₁
       (h₁₁ ∙ sym (append-nil (showLine (text "axis=") (showAxis (l .axis))))) b₁₁ _
-      (used-or-default (isPool (l .op)) isDefaultAxis _ _ (unless (isPool (l .op)) (isDefaultAxis (l .axis)) (p .used-axis))) _ (Sheet l) λ at₁₂ h₁₂ b₁₂.
+      (used-or-default (isPool (l .op)) isDefaultAxisAttribute _ _ (unless (isPool (l .op)) (isDefaultAxisAttribute (l .axis)) (p .used-axis))) _ (Sheet l) λ at₁₂ h₁₂ b₁₂.
       sym (ended-yes 13 s at₁₂ _ (drop-all s at₁₂ h₁₂ b₁₂)) ∙ ap Sheet (layer-back l p)
 
   sheet-there : readSheet (showSheet l) ≡ Sheet l
@@ -112,10 +108,10 @@ module _ (l : Layer) (p : Passed l) (f : LayerFits l) where
       let s = showSheet l in
       there (text "op=") (lookup opWords) 22 op-inverse 1 (l .op) tt _ s 0 refl (omega arith) _ (λ m e. e) _ (Sheet l) λ at₁ h₁ b₁.
       there (text "axes=") axesNumber 21 axes-inverse 2 (l .axes) o _ s at₁ h₁ b₁ _ (λ m e. e) _ (Sheet l) λ at₂ h₂ b₂.
-      there (text "input=") (numbers (inputCount (l .axes))) 21 (input-inverse (l .axes) o) 3 _
+      there (text "input=") (numbers (inputNumbers (l .axes))) 21 (input-inverse (l .axes) o) 3 _
       (input-ok (l .axes) o (l .n) (l .c) (l .y .input) (l .x .input) (f .n) (f .c) (f .y .input) (f .x .input)) _ s at₂ h₂ b₂ _
       (λ m e. e) _ (Sheet l) λ at₃ h₃ b₃.
-      there (text "kernel=") (numbers (kernelCount (l .op) (l .axes))) 21 (kernel-inverse (l .op) (l .axes) o) 4 _
+      there (text "kernel=") (numbers (kernelNumbers (l .op) (l .axes))) 21 (kernel-inverse (l .op) (l .axes) o) 4 _
       (kernel-ok (l .axes) o (l .op) (l .g) (l .o) (l .i) (l .y .kernel) (l .x .kernel) (f .g) (f .o) (f .i) (f .y .kernel) (f .x .kernel)) _ s at₃ h₃
       b₃ _ (λ m e. e) _ (Sheet l) λ at₄ h₄ b₄.
       there (text "strides=") (numbers (l .axes)) 21 i 5 _
@@ -130,7 +126,7 @@ module _ (l : Layer) (p : Passed l) (f : LayerFits l) where
 went : {A : Type 0} {G : Type 0} (n : ℕ) (x : Parsed A) (f : A → ℕ → Read) (l : Layer) → after n x f ≡ Sheet l
     → ((v : A) (at : ℕ) → x ≡ got v at → f v at ≡ Sheet l → G) → G
 unfolding after
-went n (bad k) f l e g = let z : _≡_ {A = ℕ} 0 1 = cc in absurd (omega arith)
+went n (bad k) f l e g = absurd (false≢true cc)
 went n (got v at) f l e g = g v at refl e
 
 ended-sheet : (n : ℕ) (s : List ℕ) (at : ℕ) (l m : Layer) → ended n s at l ≡ Sheet m → (at ≡ length s) × (l ≡ m)
@@ -139,26 +135,26 @@ ended-sheet n s at l m e = go (eqb at (length s)) refl e
   where
     go : (b : Bool) → eqb at (length s) ≡ b → cond b (Sheet l) (Refused 20 n) ≡ Sheet m → (at ≡ length s) × (l ≡ m)
     go true p q = (eqb-true at (length s) p, cc)
-    go false p q = let z : _≡_ {A = ℕ} 0 1 = cc in absurd (omega arith)
+    go false p q = absurd (false≢true cc)
 
 -- a line that was read is used, or at its default
 unless-says : {A : Type 0} (u : Bool) (d : A → Bool) (x : Parsed A) (v : A) (n : ℕ) → unlessUsed u d x ≡ got v n
     → (x ≡ got v n) × (not u && not (d v) ≡ false)
 unfolding unlessUsed
-unless-says u d (bad k) v n e = let z : _≡_ {A = ℕ} 0 1 = cc in absurd (omega arith)
+unless-says u d (bad k) v n e = absurd (false≢true cc)
 unless-says u d (got w m) v n e = go u (d w) refl e
   where
     go : (a b : Bool) → d w ≡ b → cond a (got w m) (cond b (got w m) (bad 23)) ≡ got v n → (got w m ≡ got v n) × (not a && not (d v) ≡ false)
     go true b p q = (q, refl)
     go false true p q = let z : w ≡ v = cc in (q, rw (← z, p))
-    go false false p q = let z : _≡_ {A = ℕ} 0 1 = cc in absurd (omega arith)
+    go false false p q = absurd (false≢true cc)
 
 padding-said : (t : Bool) (axes : ℕ) (f : Five) (φ : Axis → ℕ) (unused used : Axis) → (axes ≡ 1 → φ unused ≡ 0) → φ used ≡ f .a
     → not t && not (noPadding f) ≡ false
     → not t && not (eqb (φ (yAxis axes unused used)) 0 && eqb (lastOf axes (f .a) (f .b)) 0) ≡ false
 padding-said true axes f φ unused used h k e = refl
 padding-said false axes f φ unused used h k e =
-    let d = two (eqb (f .a) 0) (eqb (f .b) 0) (unless false (noPadding f) e refl) in go (eqb axes 1) refl (d .0) (d .1)
+    let d = and-both (eqb (f .a) 0) (eqb (f .b) 0) (unless false (noPadding f) e refl) in go (eqb axes 1) refl (d .0) (d .1)
   where
     go : (b : Bool) → eqb axes 1 ≡ b → eqb (f .a) 0 ≡ true → eqb (f .b) 0 ≡ true
         → not (eqb (φ (cond b unused used)) 0 && eqb (cond b (f .a) (f .b)) 0) ≡ false
@@ -205,8 +201,8 @@ record Lines (s : List ℕ) (l : Layer) : Type 0 where
   at₁₂ : ℕ
   line₁ : opLine s 0 ≡ got op at₁
   line₂ : axesLine s at₁ ≡ got axes at₂
-  line₃ : listLine (text "input=") (inputCount axes) s at₂ ≡ got input at₃
-  line₄ : listLine (text "kernel=") (kernelCount op axes) s at₃ ≡ got kernel at₄
+  line₃ : listLine (text "input=") (inputNumbers axes) s at₂ ≡ got input at₃
+  line₄ : listLine (text "kernel=") (kernelNumbers op axes) s at₃ ≡ got kernel at₄
   line₅ : listLine (text "strides=") axes s at₄ ≡ got strides at₅
   line₆ : listLine (text "dilations=") axes s at₅ ≡ got dilations at₆
   line₇ : autoPadLine s at₆ ≡ got mode at₇
@@ -302,7 +298,7 @@ module _ (s : List ℕ) (l : Layer) (r : Lines s l) where
       (back (text "rounding=") (lookup roundingWords) 22 rounding-inverse s (r .at₁₀) (r .rounding) (r .at₁₁) _ _ refl
       (unless-says (isPool (r .op)) isDefaultRounding _ (r .rounding) (r .at₁₁) (r .line₁₁) .0)
       (back-end (text "axis=") axisNumber 21 axis-inverse s (r .at₁₁) (r .axis) (r .at₁₂)
-      (unless-says (isPool (r .op)) isDefaultAxis _ (r .axis) (r .at₁₂) (r .line₁₂) .0) (r .all))))))
+      (unless-says (isPool (r .op)) isDefaultAxisAttribute _ (r .axis) (r .at₁₂) (r .line₁₂) .0) (r .all))))))
 
   sheet-back : showSheet l ≡ s
   unfolding showSheet opLine axesLine listLine
@@ -312,9 +308,9 @@ module _ (s : List ℕ) (l : Layer) (r : Lines s l) where
       ap showSheet (sym (r .made))
       ∙ back (text "op=") (lookup opWords) 22 op-inverse s 0 (r .op) (r .at₁) _ _ refl (r .line₁)
       (back (text "axes=") axesNumber 21 axes-inverse s (r .at₁) (r .axes) (r .at₂) _ _ refl (r .line₂)
-      (back (text "input=") (numbers (inputCount (r .axes))) 21 (input-inverse (r .axes) o) s (r .at₂) (r .input) (r .at₃) _ _
+      (back (text "input=") (numbers (inputNumbers (r .axes))) 21 (input-inverse (r .axes) o) s (r .at₂) (r .input) (r .at₃) _ _
       (input-text (r .axes) o (λ (a : Axis). a .input) (r .input) _ _ (λ e. rw e)) (r .line₃)
-      (back (text "kernel=") (numbers (kernelCount (r .op) (r .axes))) 21 (kernel-inverse (r .op) (r .axes) o) s (r .at₃) (r .kernel) (r .at₄) _ _
+      (back (text "kernel=") (numbers (kernelNumbers (r .op) (r .axes))) 21 (kernel-inverse (r .op) (r .axes) o) s (r .at₃) (r .kernel) (r .at₄) _ _
       (kernel-text (r .axes) o (r .op) (λ (a : Axis). a .kernel) (r .kernel) _ _ (λ e. rw e)) (r .line₄)
       (back (text "strides=") (numbers (r .axes)) 21 i s (r .at₄) (r .strides) (r .at₅) _ _
       (pair-text (r .axes) o (λ (a : Axis). a .stride) (r .strides) _ _ (λ e. rw e)) (r .line₅)
@@ -326,7 +322,7 @@ module _ (s : List ℕ) (l : Layer) (r : Lines s l) where
   unfolding anyAxis paddingLine roundingLine axisLine
   read-passed =
       let a = line-value (text "axis=") axisNumber 20 21 s (r .at₁₁) (r .axis) (r .at₁₂)
-      (unless-says (isPool (r .op)) isDefaultAxis _ (r .axis) (r .at₁₂) (r .line₁₂) .0) in
+      (unless-says (isPool (r .op)) isDefaultAxisAttribute _ (r .axis) (r .at₁₂) (r .line₁₂) .0) in
       record {
         axes = not-bad-axes (r .axes) one-or-two;
         input = nothing-hidden (r .axes) 1 (λ (a : Axis). a .input) _ _ (λ e. rw e);
@@ -342,7 +338,7 @@ module _ (s : List ℕ) (l : Layer) (r : Lines s l) where
             (unless-says (isTransposed (r .op)) noPadding _ (r .padding) (r .at₁₀) (r .line₁₀) .1);
         used-rounding = unless-says (isPool (r .op)) isDefaultRounding _ (r .rounding) (r .at₁₁) (r .line₁₁) .1;
         axis = axis-said (a .0) (r .axis) (a .1);
-        used-axis = unless-says (isPool (r .op)) isDefaultAxis _ (r .axis) (r .at₁₂) (r .line₁₂) .1;
+        used-axis = unless-says (isPool (r .op)) isDefaultAxisAttribute _ (r .axis) (r .at₁₂) (r .line₁₂) .1;
       }
 
   sheet-fine : faultOf l ≡ Fine

@@ -3,7 +3,7 @@ use Prim.Native.Nat.{ℕ, suc, _+_, _-_, _≤_, _<_}
 use mathlib.Core.Path.{_≡_, refl, sym, ap, _∙_}
 use mathlib.Core.Logic.{_⊎_, inl, inr}
 use mathlib.Core.List.{List, [], _∷_}
-use mathlib.Core.Bool.{Bool, true, false, cond}
+use mathlib.Core.Bool.{Bool, true, false, cond, false≢true}
 use mathlib.Core.Option.{Option, some, none}
 use native.Mathlib.Nat.{add-sub-cancel-left}
 use native.Mathlib.Omega.{arith}
@@ -98,14 +98,14 @@ OneTwo n = (n ≡ 1) ⊎ (n ≡ 2)
 
 one-two : (o : Option ℕ) (n : ℕ) → oneOrTwo o ≡ some n → (o ≡ some n) × OneTwo n
 unfolding oneOrTwo OneTwo
-one-two none n e = let z : _≡_ {A = ℕ} 0 1 = cc in absurd (omega arith)
+one-two none n e = absurd (false≢true cc)
 one-two (some m) n e = go (eqb m 1) (eqb m 2) refl refl e
   where
     go : (a b : Bool) → eqb m 1 ≡ a → eqb m 2 ≡ b → cond a (some m) (cond b (some m) none) ≡ some n
         → (_≡_ {A = Option ℕ} (some m) (some n)) × ((n ≡ 1) ⊎ (n ≡ 2))
     go true b p q r = let z : m ≡ n = cc in (r, inl (sym z ∙ eqb-true m 1 p))
     go false true p q r = let z : m ≡ n = cc in (r, inr (sym z ∙ eqb-true m 2 q))
-    go false false p q r = let z : _≡_ {A = ℕ} 0 1 = cc in absurd (omega arith)
+    go false false p q r = absurd (false≢true cc)
 
 pub axes-said : (t : List ℕ) (n : ℕ) → axesNumber t ≡ some n → OneTwo n
 unfolding axesNumber
@@ -142,12 +142,12 @@ axis-flat (negsuc n) = rw (ne-eqb (49 + n) 10 (λ e. omega (arith, e)))
 
 both-some : {z : ℤ} (p q : Bool) (w : ℤ) → cond p (cond q (some w) none) none ≡ some z → (p ≡ true) × (q ≡ true) × (w ≡ z)
 both-some true true w e = (refl, refl, cc)
-both-some true false w e = let n : _≡_ {A = ℕ} 0 1 = cc in absurd (omega arith)
-both-some false q w e = let n : _≡_ {A = ℕ} 0 1 = cc in absurd (omega arith)
+both-some true false w e = absurd (false≢true cc)
+both-some false q w e = absurd (false≢true cc)
 
 axis-shown : (t : List ℕ) (z : ℤ) → axisNumber t ≡ some z → showAxis z ≡ t
 unfolding axisNumber showAxis
-axis-shown [] z e = let n : _≡_ {A = ℕ} 0 1 = cc in absurd (omega arith)
+axis-shown [] z e = absurd (false≢true cc)
 axis-shown (b ∷ []) z e =
     let k = both-some (leb 48 b) (leb b 57) (pos (b - 48)) e in
     let l : 48 ≤ b = leb-true 48 b (k .0) in
@@ -156,13 +156,13 @@ axis-shown (b ∷ []) z e =
 axis-shown (a ∷ b ∷ []) z e = go (eqb a 45) refl e
   where
     go : (f : Bool) → eqb a 45 ≡ f → cond f (minusAxis b) none ≡ some z → showAxis z ≡ a ∷ b ∷ []
-    go false p q = let n : _≡_ {A = ℕ} 0 1 = cc in absurd (omega arith)
+    go false p q = absurd (false≢true cc)
     go true p q =
         let k = both-some (leb 49 b) (leb b 57) (negsuc (b - 49)) q in
         let l : 49 ≤ b = leb-true 49 b (k .0) in
         let w : 49 + (b - 49) ≡ b = omega arith in
         ap showAxis (sym (k .2)) ∙ rw (w, eqb-true a 45 p)
-axis-shown (a ∷ b ∷ c ∷ t) z e = let n : _≡_ {A = ℕ} 0 1 = cc in absurd (omega arith)
+axis-shown (a ∷ b ∷ c ∷ t) z e = absurd (false≢true cc)
 
 pub axis-inverse : Inverse axisNumber showAxis (λ (z : ℤ). badAxis z ≡ false)
 axis-inverse = record { read-shown = axis-read; shown-read = axis-shown; one-line = λ z ok. axis-flat z }
@@ -170,7 +170,7 @@ axis-inverse = record { read-shown = axis-read; shown-read = axis-shown; one-lin
 -- what was read can be shown
 pub axis-said : (t : List ℕ) (z : ℤ) → axisNumber t ≡ some z → badAxis z ≡ false
 unfolding axisNumber
-axis-said [] z e = let n : _≡_ {A = ℕ} 0 1 = cc in absurd (omega arith)
+axis-said [] z e = absurd (false≢true cc)
 axis-said (b ∷ []) z e =
     let k = both-some (leb 48 b) (leb b 57) (pos (b - 48)) e in
     let h = leb-true b 57 (k .1) in
@@ -178,12 +178,12 @@ axis-said (b ∷ []) z e =
 axis-said (a ∷ b ∷ []) z e = go (eqb a 45) e
   where
     go : (f : Bool) → cond f (minusAxis b) none ≡ some z → badAxis z ≡ false
-    go false q = let n : _≡_ {A = ℕ} 0 1 = cc in absurd (omega arith)
+    go false q = absurd (false≢true cc)
     go true q =
         let k = both-some (leb 49 b) (leb b 57) (negsuc (b - 49)) q in
         let h = leb-true b 57 (k .1) in
         ap badAxis (sym (k .2)) ∙ rw (le-leb (b - 49) 8 (omega arith))
-axis-said (a ∷ b ∷ c ∷ t) z e = let n : _≡_ {A = ℕ} 0 1 = cc in absurd (omega arith)
+axis-said (a ∷ b ∷ c ∷ t) z e = absurd (false≢true cc)
 
 -- ---- lists of so many numbers
 abbrev pub ListOk : ℕ → Five → Type 0

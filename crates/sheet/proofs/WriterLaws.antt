@@ -2,7 +2,7 @@
 use Prim.Native.Nat.{ℕ, _+_, _≤_, _<_}
 use mathlib.Core.Path.{_≡_, refl, sym, ap, _∙_}
 use mathlib.Core.List.{List, [], _∷_, _++_}
-use mathlib.Core.Bool.{Bool, true, false, cond, not, _&&_}
+use mathlib.Core.Bool.{Bool, true, false, cond, not, _&&_, false≢true}
 use native.Mathlib.Nat.{zero-add}
 use native.Mathlib.Omega.{arith}
 use lib.Dec.{T, leb}
@@ -24,8 +24,8 @@ use Rattle.sheet.specs.declared.Fault.the-variants.{Fine, At}
 
 both : (a b : Bool) → not (a && b) ≡ false → (a ≡ true) × (b ≡ true)
 both true true e = (refl, refl)
-both true false e = let z : _≡_ {A = ℕ} 0 1 = cc in absurd (omega arith)
-both false b e = let z : _≡_ {A = ℕ} 0 1 = cc in absurd (omega arith)
+both true false e = absurd (false≢true cc)
+both false b e = absurd (false≢true cc)
 
 -- an axis that a line can show is one digit, or a minus and one digit
 pub shown-digit : (n : ℕ) → badAxis (pos n) ≡ false → n ≤ 9
@@ -65,7 +65,7 @@ module _ (z : ℤ) (f : SFits w32 z) (ok : badAxis z ≡ false) where
     where
       go : (z : ℤ) → badAxis z ≡ false → ltZ z (pos 0) ≡ false → (m : ℕ) × (pos 48 +ℤ z ≡ pos m) × (m ≤ 57) × (showAxis z ≡ m ∷ [])
       go (pos n) b t = (48 + n, refl, omega (arith, shown-digit n b), refl)
-      go (negsuc n) b t = let w : _≡_ {A = ℕ} 0 1 = cc in absurd (omega arith)
+      go (negsuc n) b t = absurd (false≢true cc)
 
 -- ---- a layer without a fault has passed each test, and a layer that has passed each has no fault
 
@@ -95,7 +95,7 @@ clear [] e = tt
 clear (t ∷ more) e = go (t .0) e (λ (q : first more ≡ Fine). clear more q)
   where
     go : (b : Bool) → cond b (At (t .1) (t .2)) (first more) ≡ Fine → (first more ≡ Fine → Clear more) → (b ≡ false) × Clear more
-    go true q g = let z : _≡_ {A = ℕ} 0 1 = cc in absurd (omega arith)
+    go true q g = absurd (false≢true cc)
     go false q g = (refl, g q)
 
 pub passed : (l : Layer) → faultOf l ≡ Fine → Passed l

@@ -16,14 +16,14 @@ use Rattle.sheet.specs.declared.Kernel.{Kernel}
 -- ---- from lists to a layer
 
 -- "Input [N, C, Y, X]", "One axis means [N, C, X]", "With one axis each list is one shorter."
-abbrev pub inputCount : ℕ → ℕ
-inputCount axes = axes + 2
+abbrev pub inputNumbers : ℕ → ℕ
+inputNumbers axes = axes + 2
 
 -- "Convolution kernel [G, O, I, KY, KX], transposed kernel [G, I, O, KY, KX]", "and a kernel without KY", "maxpool has KY,KX alone"
-abbrev pub kernelCount : Op → ℕ → ℕ
-kernelCount Convolution axes = axes + 3
-kernelCount Transposed axes = axes + 3
-kernelCount MaxPool axes = axes
+abbrev pub kernelNumbers : Op → ℕ → ℕ
+kernelNumbers Convolution axes = axes + 3
+kernelNumbers Transposed axes = axes + 3
+kernelNumbers MaxPool axes = axes
 
 -- "Kernel lists are as above; maxpool has KY,KX alone.": G, O and I, "1 for any size that is not used", and the two numbers that follow: KY and KX, with one
 -- axis KX alone

@@ -11,13 +11,13 @@ use Rattle.text.specs.Words.{lookup}
 use Rattle.text.specs.Lines.{Parsed, got, bad, keyLine}
 use Rattle.text.specs.declared.Five.{Five}
 use Rattle.layer.specs.Kinds.{isPool, isTransposed}
-use Rattle.layer.specs.Defaults.{defaultAxis, isDefaultRounding, isDefaultAxis}
+use Rattle.layer.specs.Defaults.{defaultAxis, isDefaultRounding, isDefaultAxisAttribute}
 use Rattle.layer.specs.declared.Op.{Op}
 use Rattle.layer.specs.declared.AutoPad.{AutoPad}
 use Rattle.layer.specs.declared.Rounding.{Rounding}
 use Rattle.layer.specs.declared.Layer.{Layer}
 use Rattle.sheet.specs.Values.{opWords, autoPadWords, roundingWords, axesNumber, axisNumber}
-use Rattle.sheet.specs.Layers.{inputCount, kernelCount, sizedLayer, paddedLayer}
+use Rattle.sheet.specs.Layers.{inputNumbers, kernelNumbers, sizedLayer, paddedLayer}
 use Rattle.sheet.specs.declared.Read.{Read}
 use Rattle.sheet.specs.declared.Read.the-variants.{Sheet, Refused}
 use Rattle.sheet.specs.declared.OpLine.{OpLine}
@@ -69,7 +69,7 @@ unfoldable pub roundingLine : Op → List ℕ → ℕ → Parsed Rounding
 roundingLine op s at = unlessUsed (isPool op) isDefaultRounding (anyRounding s at)
 
 unfoldable pub axisLine : Op → List ℕ → ℕ → Parsed ℤ
-axisLine op s at = unlessUsed (isPool op) isDefaultAxis (anyAxis s at)
+axisLine op s at = unlessUsed (isPool op) isDefaultAxisAttribute (anyAxis s at)
 
 -- ---- the sheet
 
@@ -98,8 +98,8 @@ unfoldable pub readSheet : List ℕ → Read
 readSheet s =
     after 1 (opLine s 0) λ op at₁.
     after 2 (axesLine s at₁) λ axes at₂.
-    after 3 (listLine (text "input=") (inputCount axes) s at₂) λ input at₃.
-    after 4 (listLine (text "kernel=") (kernelCount op axes) s at₃) λ kernel at₄.
+    after 3 (listLine (text "input=") (inputNumbers axes) s at₂) λ input at₃.
+    after 4 (listLine (text "kernel=") (kernelNumbers op axes) s at₃) λ kernel at₄.
     after 5 (listLine (text "strides=") axes s at₄) λ strides at₅.
     after 6 (listLine (text "dilations=") axes s at₅) λ dilations at₆.
     readPads (sizedLayer op axes input kernel strides dilations) s at₆

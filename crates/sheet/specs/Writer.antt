@@ -11,12 +11,12 @@ use Rattle.text.specs.Numbers.{decimal}
 use Rattle.text.specs.Lists.{showNumbers}
 use Rattle.text.specs.Lines.{showLine}
 use Rattle.layer.specs.Kinds.{isPool, isTransposed}
-use Rattle.layer.specs.Defaults.{defaultAxis, sizeDefault, isDefaultRounding, isDefaultAxis}
+use Rattle.layer.specs.Defaults.{defaultAxis, sizeDefault, isDefaultRounding, isDefaultAxisAttribute}
 use Rattle.layer.specs.declared.Op.{Op}
 use Rattle.layer.specs.declared.Rounding.{Rounding}
 use Rattle.layer.specs.declared.Layer.{Layer}
 use Rattle.sheet.specs.Values.{showOp, showAutoPad, showRounding, showAxis}
-use Rattle.sheet.specs.Layers.{inputCount, kernelCount, pairList, inputList, kernelList}
+use Rattle.sheet.specs.Layers.{inputNumbers, kernelNumbers, pairList, inputList, kernelList}
 use Rattle.sheet.specs.declared.Fault.{Fault}
 use Rattle.sheet.specs.declared.Fault.the-variants.{Fine, At}
 use Rattle.sheet.specs.declared.Written.{Written}
@@ -42,9 +42,9 @@ unfoldable pub showSheet : Layer → List ℕ
 showSheet l =
     showLine (text "op=") (showOp (l .op))
     ++ (showLine (text "axes=") (decimal (l .axes))
-    ++ (showLine (text "input=") (showNumbers (inputCount (l .axes)) (inputList (l .axes) (l .n) (l .c) (l .y .input) (l .x .input)))
+    ++ (showLine (text "input=") (showNumbers (inputNumbers (l .axes)) (inputList (l .axes) (l .n) (l .c) (l .y .input) (l .x .input)))
     ++ (showLine (text "kernel=")
-    (showNumbers (kernelCount (l .op) (l .axes)) (kernelList (l .op) (l .axes) (l .g) (l .o) (l .i) (l .y .kernel) (l .x .kernel)))
+    (showNumbers (kernelNumbers (l .op) (l .axes)) (kernelList (l .op) (l .axes) (l .g) (l .o) (l .i) (l .y .kernel) (l .x .kernel)))
     ++ (pairLine (text "strides=") (l .axes) (l .y .stride) (l .x .stride)
     ++ (pairLine (text "dilations=") (l .axes) (l .y .dilation) (l .x .dilation)
     ++ showPads l)))))
@@ -74,7 +74,7 @@ abbrev pub unusedRounding : Op → Rounding → Bool
 unusedRounding op r = not (isPool op) && not (isDefaultRounding r)
 
 abbrev pub unusedAxis : Op → ℤ → Bool
-unusedAxis op z = not (isPool op) && not (isDefaultAxis z)
+unusedAxis op z = not (isPool op) && not (isDefaultAxisAttribute z)
 
 -- The lines' tests in their order, each with its number and its line; a hidden field counts "at the line of the list it belongs to".
 abbrev pub axisFaults : Op → ℤ → List (Bool × ℕ × ℕ)

@@ -4,7 +4,7 @@ use layer::Axis;
 use layer::Layer;
 use layer::Op;
 use layer::Rounding;
-use layer::is_default_axis;
+use layer::is_default_axis_attribute;
 use layer::is_default_rounding;
 use layer::is_pool;
 use layer::is_transposed;
@@ -29,7 +29,7 @@ ghost use Rattle.text.specs.Words.{lookup};
 ghost use Rattle.text.specs.Lines.{valueRead, showLine};
 ghost use Rattle.text.specs.Put.{Put};
 ghost use Rattle.sheet.specs.Values.{opWords, autoPadWords, roundingWords, axesNumber, digitAxis, minusAxis, axisNumber, showOp, showAutoPad, showRounding, showAxis};
-ghost use Rattle.sheet.specs.Layers.{kernelCount, kernelOf, lastOf, yAxis, withSizes, withPads, sizedLayer, paddedLayer, pairList, inputList, kernelList};
+ghost use Rattle.sheet.specs.Layers.{kernelNumbers, kernelOf, lastOf, yAxis, withSizes, withPads, sizedLayer, paddedLayer, pairList, inputList, kernelList};
 ghost use Rattle.sheet.specs.Reader.{opLine, axesLine, listLine, autoPadLine, anyRounding, anyAxis, noPadding, paddingLine, roundingLine, axisLine, readPads, readSheet, opParsed, axesParsed, listParsed, autoPadParsed, roundingParsed, axisParsed, refused};
 ghost use Rattle.sheet.specs.Writer.{pairLine, showPads, showSheet, badAxes, badAxis, hides, hidesSizes, unusedPadding, unusedRounding, unusedAxis, axisFaults, padFaults, first, faultOf, notWritten, writeSheet, bufferAfter};
 
@@ -365,7 +365,7 @@ fn axis_line(s: &[u8], at: usize, op: Op) -> AxisLine
     let AxisLine::AxisAt(v, _) = r else {
         return r;
     };
-    if is_default_axis(v) {
+    if is_default_axis_attribute(v) {
         return r;
     }
     AxisLine::BadAxis(23)
@@ -373,8 +373,8 @@ fn axis_line(s: &[u8], at: usize, op: Op) -> AxisLine
 
 // ---- the layer
 
-fn kernel_count(op: Op, axes: u32) -> usize
-    ensures { λ r. ⌜ r ≡ kernelCount op axes ⌝ }
+fn kernel_numbers(op: Op, axes: u32) -> usize
+    ensures { λ r. ⌜ r ≡ kernelNumbers op axes ⌝ }
 {
     match op {
         Op::Convolution => axes as usize + 3,
@@ -589,7 +589,7 @@ pub fn read_sheet(s: &[u8]) -> Read
     let ListLine::ListAt(input, at3) = r3 else {
         return refuse_list(r3, 3);
     };
-    let r4 = list_line(s, at3, b"kernel=", kernel_count(op, axes));
+    let r4 = list_line(s, at3, b"kernel=", kernel_numbers(op, axes));
     let ListLine::ListAt(kernel, at4) = r4 else {
         return refuse_list(r4, 4);
     };
@@ -779,7 +779,7 @@ fn put_sheet(buf: &mut [u8], l: Layer) -> usize
         input_list(axes, l.n, l.c, y.input, x.input),
     );
     let kernel = kernel_list(op, axes, l.g, l.o, l.i, y.kernel, x.kernel);
-    let at4 = put_list_line(buf, at3, b"kernel=", kernel_count(op, axes), kernel);
+    let at4 = put_list_line(buf, at3, b"kernel=", kernel_numbers(op, axes), kernel);
     let at5 = put_pair(buf, at4, b"strides=", axes, y.stride, x.stride);
     let at6 = put_pair(buf, at5, b"dilations=", axes, y.dilation, x.dilation);
     put_pads(buf, at6, l)
@@ -826,7 +826,7 @@ fn unused_rounding(op: Op, rounding: Rounding) -> bool
 fn unused_axis(op: Op, axis: i32) -> bool
     ensures { λ r. ⌜ r ≡ unusedAxis op axis ⌝ }
 {
-    !is_pool(op) & !is_default_axis(axis)
+    !is_pool(op) & !is_default_axis_attribute(axis)
 }
 
 // Line 12.

@@ -2,7 +2,7 @@
 use Prim.Native.Nat.{ℕ, zero, suc, _+_, _-_, _*_, _≤_, _<_, min}
 use mathlib.Core.Path.{_≡_, refl, sym, ap, _∙_}
 use mathlib.Core.List.{List, _∷_, _++_}
-use mathlib.Core.Bool.{Bool, true, false, cond}
+use mathlib.Core.Bool.{Bool, true, false, cond, false≢true}
 use mathlib.Core.Option.{Option, some, none}
 use native.Mathlib.Numerals.{add-one, sub-one}
 use native.Mathlib.Omega.{arith}
@@ -114,13 +114,13 @@ numbers-show (suc k) f r =
 
 some-last : (o : Option ℕ) (f : Five) → lastNumber o ≡ some f → (x : ℕ) × (o ≡ some x) × (f ≡ oneItem x)
 unfolding lastNumber
-some-last none f e = let z : _≡_ {A = ℕ} 0 1 = cc in absurd (omega arith)
+some-last none f e = absurd (false≢true cc)
 some-last (some x) f e = (x, refl, cc)
 
 some-more : (o : Option ℕ) (r : Option Five) (f : Five) → oneMore o r ≡ some f → (x : ℕ) × (g : Five) × (o ≡ some x) × (r ≡ some g) × (f ≡ moreItem x g)
 unfolding oneMore
-some-more none r f e = let z : _≡_ {A = ℕ} 0 1 = cc in absurd (omega arith)
-some-more (some x) none f e = let z : _≡_ {A = ℕ} 0 1 = cc in absurd (omega arith)
+some-more none r f e = absurd (false≢true cc)
+some-more (some x) none f e = absurd (false≢true cc)
 some-more (some x) (some g) f e = (x, g, refl, refl, cc)
 
 -- the numbers that are read are in range, and the others are 0
@@ -150,7 +150,7 @@ numbers-back (suc k) t f m e = go (ltb (place 44 t) (length t)) refl e
         → cond b (oneMore (number (take (place 44 t) t)) (spelled (suc k) (drop (suc (place 44 t)) t))) none ≡ some f
         → ((g : Five) → spelled (suc k) (drop (suc (place 44 t)) t) ≡ some g → (shown (suc k) g ≡ drop (suc (place 44 t)) t) × InRange g)
         → (decimal (f .a) ++ (44 ∷ shown (suc k) (laterItems f)) ≡ t) × InRange f
-    go false p q ih = let z : _≡_ {A = ℕ} 0 1 = cc in absurd (omega arith)
+    go false p q ih = absurd (false≢true cc)
     go true p q ih =
         let h = some-more (number (take (place 44 t) t)) (spelled (suc k) (drop (suc (place 44 t)) t)) f q in
         let d = decimal-number (take (place 44 t) t) (h .0) (h .2) in

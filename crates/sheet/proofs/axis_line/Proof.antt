@@ -3,7 +3,7 @@ use borrow.Author.Needs.{needs}
 use mathlib.Core.Path.{sym, ap, _∙_}
 use Rattle.text.proofs.TextLaws.{told}
 use Rattle.sheet.proofs.ReaderLaws.{unless-used, unless-bad, unless-default, unless-other}
-use Rattle.layer.specs.Defaults.{isDefaultAxis}
+use Rattle.layer.specs.Defaults.{isDefaultAxisAttribute}
 use Rattle.sheet.specs.Reader.{axisLine, axisParsed}
 use mir.Syntax.{w32}
 use mir.Facts.{toZ-ofZ}
@@ -24,13 +24,13 @@ returns-3 : tie.Need-returns-3
 unfolding axisLine
 returns-3 c =
     let a = c .before .before .before .before .before in
-    unless-default _ _ _ _ (sym (a .before .is-pool .ensures) ∙ a .if1 .left) (told axisParsed (a .before .before .any-axis .ensures) (c .before .before .before .r .given .1)) (ap isDefaultAxis (sym (toZ-ofZ {w = w32} {z = c .before .before .before .r .given .0 .0} (record { sfits = c .before .before .known-told .given .0 .1 }))) ∙ sym (c .before .is-default-axis .ensures) ∙ c .if2 .taken)
+    unless-default _ _ _ _ (sym (a .before .is-pool .ensures) ∙ a .if1 .left) (told axisParsed (a .before .before .any-axis .ensures) (c .before .before .before .r .given .1)) (ap isDefaultAxisAttribute (sym (toZ-ofZ {w = w32} {z = c .before .before .before .r .given .0 .0} (record { sfits = c .before .before .known-told .given .0 .1 }))) ∙ sym (c .before .is-default-axis-attribute .ensures) ∙ c .if2 .taken)
 
 returns-4 : tie.Need-returns-4
 unfolding axisLine
 returns-4 c =
     let a = c .before .before .before .before .before in
-    unless-other _ _ _ _ (sym (a .before .is-pool .ensures) ∙ a .if1 .left) (told axisParsed (a .before .before .any-axis .ensures) (c .before .before .before .r .given .1)) (ap isDefaultAxis (sym (toZ-ofZ {w = w32} {z = c .before .before .before .r .given .0 .0} (record { sfits = c .before .before .known-told .given .0 .1 }))) ∙ sym (c .before .is-default-axis .ensures) ∙ c .if2 .left)
+    unless-other _ _ _ _ (sym (a .before .is-pool .ensures) ∙ a .if1 .left) (told axisParsed (a .before .before .any-axis .ensures) (c .before .before .before .r .given .1)) (ap isDefaultAxisAttribute (sym (toZ-ofZ {w = w32} {z = c .before .before .before .r .given .0 .0} (record { sfits = c .before .before .known-told .given .0 .1 }))) ∙ sym (c .before .is-default-axis-attribute .ensures) ∙ c .if2 .left)
 
 pub axis-line-spec : {M : Type 1} → statement M
 axis-line-spec =

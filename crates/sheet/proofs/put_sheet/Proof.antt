@@ -31,7 +31,7 @@ returns c =
     let f = e .before .before .before .before in
     let g = f .before .before .before .before .before in
     let h = g .before .before .before .before in
-    put-then (h .put-op .ensures) (put-then (g .put-axes .ensures) (put-then (rw (f .input-list .ensures) at (e .before .before .before .put-list-line .ensures)) (put-then (rw (e .kernel-list .ensures, d .before .kernel-count .ensures) at (d .put-list-line2 .ensures)) (put-then (b .put-pair .ensures) (put-then (a .put-pair2 .ensures) (c .before .before .put-pads .ensures))))))
+    put-then (h .put-op .ensures) (put-then (g .put-axes .ensures) (put-then (rw (f .input-list .ensures) at (e .before .before .before .put-list-line .ensures)) (put-then (rw (e .kernel-list .ensures, d .before .kernel-numbers .ensures) at (d .put-list-line2 .ensures)) (put-then (b .put-pair .ensures) (put-then (a .put-pair2 .ensures) (c .before .before .put-pads .ensures))))))
 
 pub put-sheet-spec : {M : Type 1} → statement M
 put-sheet-spec =

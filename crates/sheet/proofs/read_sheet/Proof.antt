@@ -35,7 +35,7 @@ returns-4 c =
     let b = a .before .before .before .before .before in
     let d = b .before .before .before .before .before in
     let e = d .before .before .before .before in
-    stopped listParsed 4 _ (rw (a .kernel-count .ensures) at (c .before .before .before .list-line2 .ensures)) (c .before .enum-told4 .given .1) (c .refuse-list2 .ensures) refl
+    stopped listParsed 4 _ (rw (a .kernel-numbers .ensures) at (c .before .before .before .list-line2 .ensures)) (c .before .enum-told4 .given .1) (c .refuse-list2 .ensures) refl
     ∙ sym
     (went-on opParsed 1 _ (e .op-line .ensures) (d .before .before .r1 .given .1) refl
     ∙ went-on axesParsed 2 _ (d .axes-line .ensures) (b .before .before .before .r2 .given .1) refl
@@ -53,7 +53,7 @@ returns-5 c =
     (went-on opParsed 1 _ (e .before .before .op-line .ensures) (e .r1 .given .1) refl
     ∙ went-on axesParsed 2 _ (d .before .before .axes-line .ensures) (d .r2 .given .1) refl
     ∙ went-on listParsed 3 _ (b .before .before .list-line .ensures) (b .r3 .given .1) refl
-    ∙ went-on listParsed 4 _ (rw (a .before .before .before .kernel-count .ensures) at (a .before .before .list-line2 .ensures)) (a .r4 .given .1) refl)
+    ∙ went-on listParsed 4 _ (rw (a .before .before .before .kernel-numbers .ensures) at (a .before .before .list-line2 .ensures)) (a .r4 .given .1) refl)
 
 returns-6 : tie.Need-returns-6
 unfolding readSheet
@@ -68,7 +68,7 @@ returns-6 c =
     (went-on opParsed 1 _ (f .before .before .op-line .ensures) (f .r1 .given .1) refl
     ∙ went-on axesParsed 2 _ (e .before .before .axes-line .ensures) (e .r2 .given .1) refl
     ∙ went-on listParsed 3 _ (d .before .before .list-line .ensures) (d .r3 .given .1) refl
-    ∙ went-on listParsed 4 _ (rw (b .before .before .before .kernel-count .ensures) at (b .before .before .list-line2 .ensures)) (b .r4 .given .1) refl
+    ∙ went-on listParsed 4 _ (rw (b .before .before .before .kernel-numbers .ensures) at (b .before .before .list-line2 .ensures)) (b .r4 .given .1) refl
     ∙ went-on listParsed 5 _ (a .before .before .list-line3 .ensures) (a .r5 .given .1) refl)
 
 returns-7 : tie.Need-returns-7
@@ -85,7 +85,7 @@ returns-7 c =
     (went-on opParsed 1 _ (g .before .before .op-line .ensures) (g .r1 .given .1) refl
     ∙ went-on axesParsed 2 _ (f .before .before .axes-line .ensures) (f .r2 .given .1) refl
     ∙ went-on listParsed 3 _ (e .before .before .list-line .ensures) (e .r3 .given .1) refl
-    ∙ went-on listParsed 4 _ (rw (d .before .kernel-count .ensures) at (d .list-line2 .ensures)) (b .before .before .before .r4 .given .1) refl
+    ∙ went-on listParsed 4 _ (rw (d .before .kernel-numbers .ensures) at (d .list-line2 .ensures)) (b .before .before .before .r4 .given .1) refl
     ∙ went-on listParsed 5 _ (b .list-line3 .ensures) (a .before .before .before .r5 .given .1) refl
     ∙ went-on listParsed 6 _ (a .list-line4 .ensures) (c .before .before .before .r6 .given .1) refl)
 

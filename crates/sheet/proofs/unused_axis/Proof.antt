@@ -5,7 +5,7 @@ use Rattle.sheet.proofs.unused_axis.Statement.{statement}
 use Rattle.sheet.proofs.unused_axis.Tie as tie
 
 returns : tie.Need-returns
-returns c = rw (c .before .is-pool .ensures, c .is-default-axis .ensures, toZ-ofZ (c .before .before .fits .axis))
+returns c = rw (c .before .is-pool .ensures, c .is-default-axis-attribute .ensures, toZ-ofZ (c .before .before .fits .axis))
 
 pub unused-axis-spec : {M : Type 1} → statement M
 unused-axis-spec =

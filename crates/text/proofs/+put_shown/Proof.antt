@@ -25,62 +25,6 @@ abbrev put-shown-below : ℕ → In 1 put-shown-kinds.ps
 put-shown-below t =
     and 1 put-shown-kinds.ps (falls 1 put-shown-kinds.ps _<_ μ-put-shown t) put-shown.Pre
 
-put-shown-returns : (t : ℕ) → put-shown-lts.Need-returns (
-  put-number-reads.Asked,
-  put-number-reads.Learnt,
-  put-byte-reads.Asked,
-  put-byte-reads.Learnt,
-  put-shown-below t,
-  put-shown.Post,
-) (put-shown-at t) put-shown.Post
-put-shown-returns t c = rw (show-none _ (c .before .before .args .f) (c .if1 .taken)) (put-none _ _ (omega arith) (omega arith))
-
-put-shown-same-length : (t : ℕ) → put-shown-lts.Need-same-length (
-  put-number-reads.Asked,
-  put-number-reads.Learnt,
-  put-byte-reads.Asked,
-  put-byte-reads.Learnt,
-  put-shown-below t,
-  put-shown.Post,
-) (put-shown-at t) put-shown.Post
-put-shown-same-length t c = c .before .before .before .put-number .kept .0
-
-put-shown-returns-2 : (t : ℕ) → put-shown-lts.Need-returns-2 (
-  put-number-reads.Asked,
-  put-number-reads.Learnt,
-  put-byte-reads.Asked,
-  put-byte-reads.Learnt,
-  put-shown-below t,
-  put-shown.Post,
-) (put-shown-at t) put-shown.Post
-put-shown-returns-2 t c =
-    let a = c .before .before .before .before .before .before .before in
-    rw (show-one _ (a .args .f) (c .if2 .taken)) (c .before .before .before .put-number .ensures)
-
-put-shown-same-length-2 : (t : ℕ) → put-shown-lts.Need-same-length-2 (
-  put-number-reads.Asked,
-  put-number-reads.Learnt,
-  put-byte-reads.Asked,
-  put-byte-reads.Learnt,
-  put-shown-below t,
-  put-shown.Post,
-) (put-shown-at t) put-shown.Post
-put-shown-same-length-2 t c =
-    let a = c .before .before .before .before .before .before in
-    let b = a .before .before .before .before .before in
-    c .before .before .put-shown .kept .0 ∙ a .put-byte .kept .0 ∙ b .put-number .kept .0
-
-put-shown-returns-3 : (t : ℕ) → put-shown-lts.Need-returns-3 (
-  put-number-reads.Asked,
-  put-number-reads.Learnt,
-  put-byte-reads.Asked,
-  put-byte-reads.Learnt,
-  put-shown-below t,
-  put-shown.Post,
-) (put-shown-at t) put-shown.Post
-put-shown-returns-3 t c =
-    rw (show-more _ (c .before .before .before .before .before .before .before .before .before .before .before .before .before .before .before .args .f) (c .before .before .before .before .before .before .before .before .before .before .before .before .before .if1 .left) (c .before .before .before .before .before .before .before .before .if2 .left)) (put-then (c .before .before .before .before .before .before .before .before .before .before .before .put-number .ensures) (put-then (c .before .before .before .before .before .before .put-byte .ensures) (c .before .before .put-shown .ensures)))
-
 pub +put-shown-spec : {M : Type 1} → statement M
 +put-shown-spec = close μ-put-shown λ t. put-shown-lts.spec (
   put-number-reads.Asked,
@@ -92,12 +36,17 @@ pub +put-shown-spec : {M : Type 1} → statement M
 )
     (put-shown-at t)
     put-shown.Post
-    (put-shown-returns t)
+    (λ c. rw (show-none _ (c .before .before .args .f) (c .if1 .taken)) (put-none _ _ (omega arith) (omega arith)))
     (λ c κs. search needs)
-    (put-shown-same-length t)
-    (put-shown-returns-2 t)
+    (λ c. c .before .before .before .put-number .kept .0)
+    (λ c.
+    let a = c .before .before .before .before .before .before .before in
+    rw (show-one _ (a .args .f) (c .if2 .taken)) (c .before .before .before .put-number .ensures))
     (λ c κs. search needs)
     (λ c. search needs)
     (λ c κs. search needs)
-    (put-shown-same-length-2 t)
-    (put-shown-returns-3 t)
+    (λ c.
+    let a = c .before .before .before .before .before .before in
+    let b = a .before .before .before .before .before in
+    c .before .before .put-shown .kept .0 ∙ a .put-byte .kept .0 ∙ b .put-number .kept .0)
+    (λ c. rw (show-more _ (c .before .before .before .before .before .before .before .before .before .before .before .before .before .before .before .args .f) (c .before .before .before .before .before .before .before .before .before .before .before .before .before .if1 .left) (c .before .before .before .before .before .before .before .before .if2 .left)) (put-then (c .before .before .before .before .before .before .before .before .before .before .before .put-number .ensures) (put-then (c .before .before .before .before .before .before .put-byte .ensures) (c .before .before .put-shown .ensures))))

@@ -32,99 +32,6 @@ spelled-numbers-below t =
     (falls 1 spelled-numbers-kinds.ps _<_ μ-spelled-numbers t)
     spelled-numbers.Pre
 
-spelled-numbers-returns : (t : ℕ) → spelled-numbers-lts.Need-returns (
-  read-number-reads.Asked,
-  read-number-reads.Learnt,
-  find-reads.Asked,
-  find-reads.Learnt,
-  spelled-numbers-below t,
-  spelled-numbers.Post,
-) (spelled-numbers-at t) spelled-numbers.Post
-spelled-numbers-returns t c = sym (numbers-0 (c .before .before .args .t .now) _ (c .if1 .taken))
-
-spelled-numbers-returns-2 : (t : ℕ) → spelled-numbers-lts.Need-returns-2 (
-  read-number-reads.Asked,
-  read-number-reads.Learnt,
-  find-reads.Asked,
-  find-reads.Learnt,
-  spelled-numbers-below t,
-  spelled-numbers.Post,
-) (spelled-numbers-at t) spelled-numbers.Post
-spelled-numbers-returns-2 t c = sym (one-none _ _ (c .before .before .before .if2 .taken) (told numberRead (c .before .before .read-number .ensures) (c .enum-told .given .1)))
-
-spelled-numbers-returns-3 : (t : ℕ) → spelled-numbers-lts.Need-returns-3 (
-  read-number-reads.Asked,
-  read-number-reads.Learnt,
-  find-reads.Asked,
-  find-reads.Learnt,
-  spelled-numbers-below t,
-  spelled-numbers.Post,
-) (spelled-numbers-at t) spelled-numbers.Post
-spelled-numbers-returns-3 t c =
-    let a = c .before .before .before .before in
-    sym (one-some _ _ _ (a .if2 .taken) (told numberRead (c .before .before .before .read-number .ensures) (c .before .x .given .1)))
-
-spelled-numbers-returns-4 : (t : ℕ) → spelled-numbers-lts.Need-returns-4 (
-  read-number-reads.Asked,
-  read-number-reads.Learnt,
-  find-reads.Asked,
-  find-reads.Learnt,
-  spelled-numbers-below t,
-  spelled-numbers.Post,
-) (spelled-numbers-at t) spelled-numbers.Post
-spelled-numbers-returns-4 t c = sym (more-uncut _ _ _ (c .before .before .before .if1 .left) (c .before .before .if2 .left) (c .before .find .ensures) (c .if3 .taken))
-
-spelled-numbers-slice-aggregate-read-number :
-    (t : ℕ) → spelled-numbers-lts.Need-slice-aggregate-read-number (
-      read-number-reads.Asked,
-      read-number-reads.Learnt,
-      find-reads.Asked,
-      find-reads.Learnt,
-      spelled-numbers-below t,
-      spelled-numbers.Post,
-    ) (spelled-numbers-at t) spelled-numbers.Post
-spelled-numbers-slice-aggregate-read-number t c =
-    let a = c .before .before .before .before .before .before in
-    sym (length-take-le (c .before .before .find .result) (a .args .t .now) (search needs))
-
-spelled-numbers-returns-5 : (t : ℕ) → spelled-numbers-lts.Need-returns-5 (
-  read-number-reads.Asked,
-  read-number-reads.Learnt,
-  find-reads.Asked,
-  find-reads.Learnt,
-  spelled-numbers-below t,
-  spelled-numbers.Post,
-) (spelled-numbers-at t) spelled-numbers.Post
-spelled-numbers-returns-5 t c =
-    let a = c .before .before .before .before in
-    sym (more-none _ _ _ (a .before .before .before .if1 .left) (a .before .before .if2 .left) (a .before .find .ensures) (a .if3 .left) (told numberRead (c .before .before .read-number2 .ensures) (c .enum-told2 .given .1)))
-
-spelled-numbers-returns-6 : (t : ℕ) → spelled-numbers-lts.Need-returns-6 (
-  read-number-reads.Asked,
-  read-number-reads.Learnt,
-  find-reads.Asked,
-  find-reads.Learnt,
-  spelled-numbers-below t,
-  spelled-numbers.Post,
-) (spelled-numbers-at t) spelled-numbers.Post
-spelled-numbers-returns-6 t c =
-    let a = c .before .before .before .before .before in
-    let b = a .before .before .before .before in
-    sym (more-no-rest _ _ _ (b .before .before .before .if1 .left) (b .before .before .if2 .left) (b .before .find .ensures) (b .if3 .left) _ (told numberRead (a .before .before .read-number2 .ensures) (a .x2 .given .1)) (told numbersRead (c .before .before .spelled-numbers .ensures) (c .enum-told3 .given .1)))
-
-spelled-numbers-returns-7 : (t : ℕ) → spelled-numbers-lts.Need-returns-7 (
-  read-number-reads.Asked,
-  read-number-reads.Learnt,
-  find-reads.Asked,
-  find-reads.Learnt,
-  spelled-numbers-below t,
-  spelled-numbers.Post,
-) (spelled-numbers-at t) spelled-numbers.Post
-spelled-numbers-returns-7 t c =
-    let a = c .before .before .before .before .before .before in
-    let b = a .before .before .before .before in
-    sym (more-all _ _ _ (b .before .before .before .if1 .left) (b .before .before .if2 .left) (b .before .find .ensures) (b .if3 .left) _ _ (told numberRead (a .before .before .read-number2 .ensures) (a .x2 .given .1)) (told numbersRead (c .before .before .before .spelled-numbers .ensures) (c .before .f .given .1)))
-
 pub +spelled-numbers-spec : {M : Type 1} → statement M
 +spelled-numbers-spec = close μ-spelled-numbers λ t. spelled-numbers-lts.spec (
   read-number-reads.Asked,
@@ -136,26 +43,38 @@ pub +spelled-numbers-spec : {M : Type 1} → statement M
 )
     (spelled-numbers-at t)
     spelled-numbers.Post
-    (spelled-numbers-returns t)
+    (λ c. sym (numbers-0 (c .before .before .args .t .now) _ (c .if1 .taken)))
     (λ c κs. search needs)
     (λ c. search needs)
     (λ c. search needs)
-    (spelled-numbers-returns-2 t)
-    (spelled-numbers-returns-3 t)
+    (λ c. sym (one-none _ _ (c .before .before .before .if2 .taken) (told numberRead (c .before .before .read-number .ensures) (c .enum-told .given .1))))
+    (λ c.
+    let a = c .before .before .before .before in
+    sym (one-some _ _ _ (a .if2 .taken) (told numberRead (c .before .before .before .read-number .ensures) (c .before .x .given .1))))
     (λ c κs. search needs)
-    (spelled-numbers-returns-4 t)
-    (spelled-numbers-slice-aggregate-read-number t)
-    (λ c κs. search needs)
-    (λ c. search needs)
-    (λ c. search needs)
-    (spelled-numbers-returns-5 t)
-    (λ c. search needs)
-    (λ c. search needs)
-    (λ c. search needs)
-    (λ c. search needs)
-    (λ c. search needs)
+    (λ c. sym (more-uncut _ _ _ (c .before .before .before .if1 .left) (c .before .before .if2 .left) (c .before .find .ensures) (c .if3 .taken)))
+    (λ c.
+    let a = c .before .before .before .before .before .before in
+    sym (length-take-le (c .before .before .find .result) (a .args .t .now) (search needs)))
     (λ c κs. search needs)
     (λ c. search needs)
     (λ c. search needs)
-    (spelled-numbers-returns-6 t)
-    (spelled-numbers-returns-7 t)
+    (λ c.
+    let a = c .before .before .before .before in
+    sym (more-none _ _ _ (a .before .before .before .if1 .left) (a .before .before .if2 .left) (a .before .find .ensures) (a .if3 .left) (told numberRead (c .before .before .read-number2 .ensures) (c .enum-told2 .given .1))))
+    (λ c. search needs)
+    (λ c. search needs)
+    (λ c. search needs)
+    (λ c. search needs)
+    (λ c. search needs)
+    (λ c κs. search needs)
+    (λ c. search needs)
+    (λ c. search needs)
+    (λ c.
+    let a = c .before .before .before .before .before in
+    let b = a .before .before .before .before in
+    sym (more-no-rest _ _ _ (b .before .before .before .if1 .left) (b .before .before .if2 .left) (b .before .find .ensures) (b .if3 .left) _ (told numberRead (a .before .before .read-number2 .ensures) (a .x2 .given .1)) (told numbersRead (c .before .before .spelled-numbers .ensures) (c .enum-told3 .given .1))))
+    (λ c.
+    let a = c .before .before .before .before .before .before in
+    let b = a .before .before .before .before in
+    sym (more-all _ _ _ (b .before .before .before .if1 .left) (b .before .before .if2 .left) (b .before .find .ensures) (b .if3 .left) _ _ (told numberRead (a .before .before .read-number2 .ensures) (a .x2 .given .1)) (told numbersRead (c .before .before .before .spelled-numbers .ensures) (c .before .f .given .1))))

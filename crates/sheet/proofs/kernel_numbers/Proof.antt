@@ -1,7 +1,7 @@
--- `kernel_count` meets its contract, operator by operator.
+-- `kernel_numbers` meets its contract, operator by operator.
 use borrow.Author.Needs.{needs}
-use Rattle.sheet.proofs.kernel_count.Statement.{statement}
-use Rattle.sheet.proofs.kernel_count.Tie as tie
+use Rattle.sheet.proofs.kernel_numbers.Statement.{statement}
+use Rattle.sheet.proofs.kernel_numbers.Tie as tie
 
 returns : tie.Need-returns
 returns c = rw (c .enum-told .given .1)
@@ -12,8 +12,8 @@ returns-2 c = rw (c .enum-told2 .given .1)
 returns-3 : tie.Need-returns-3
 returns-3 c = rw (c .enum-told3 .given .1)
 
-pub kernel-count-spec : {M : Type 1} → statement M
-kernel-count-spec =
+pub kernel-numbers-spec : {M : Type 1} → statement M
+kernel-numbers-spec =
     tie.close
     (tie.spec
     (λ c. search needs) (λ c. search needs) (λ c. search needs) (λ c. search needs) (λ c. search needs) returns
