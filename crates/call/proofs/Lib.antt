@@ -1,4 +1,4 @@
 pub mod Checked
+pub mod Planes
 pub mod Outcome
-pub mod Products
 pub mod Lines
