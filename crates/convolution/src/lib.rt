@@ -1,6 +1,6 @@
 // Convolution over lent f32 tensors.
 use call::Verdict;
-use call::check_call;
+use call::check_sum;
 use layer::Answer;
 use layer::Layer;
 use layer::Op;
@@ -10,124 +10,149 @@ use padded::columns_before;
 use padded::kernel_row_sum;
 use rows::start;
 use shape::Shape;
-use tensor::position_of;
+use shape::input_rows;
+use shape::kernel_rows;
+use shape::out_rows;
+use shape::row_tap;
+use sizes::Direction;
+use sizes::Tap;
 ghost use mathlib.Core.Path.{_≡_};
 ghost use Prim.Native.Nat.{_+_, _*_, _≤_, _<_};
 ghost use lib.ListN.{length};
+ghost use Rattle.sizes.specs.Joins.{Below};
 ghost use Rattle.shape.specs.Facts.{Grouped};
+ghost use Rattle.shape.specs.Volumes.{kernelRows};
 ghost use Rattle.tensor.specs.Table.{tabulate};
-ghost use Rattle.sums.specs.Taps.{tapAt, sumFrom, outputOf, outputsOf};
+ghost use Rattle.sums.specs.Taps.{tapAt, sumFrom, outputOf};
 ghost use Rattle.rows.specs.Rows.{Summed};
 ghost use Rattle.call.specs.Call.{answerOf, contentsOf, WholeOutputs, FiniteOutputs};
-ghost use Rattle.call.specs.Fitting.{rows, Fitting};
+ghost use Rattle.call.specs.Fitting.{Fitting};
 ghost use Rattle.convolution.specs.Convolution.{placeOf};
-ghost use Rattle.convolution.specs.Rows.{firstTapOf, placeFrom, rowPart, valuesOf, weightsOf, Within, lineTaps};
+ghost use Rattle.convolution.specs.Rows.{firstTapOf, lastFirstTap, placeFrom, rowPart, valuesOf, weightsOf, Within, lineTaps};
 
-// The first taps of a row of outputs: their plane of the input, their weight, and their row, counted from the start of the padding.
+// The first taps of a row of outputs: their plane of the input, their weight, and the row's number in its plane.
 struct FirstTap {
     plane: usize,
     weight: usize,
+    row: u32,
+}
+
+// A kernel row: its channel among those of its group, and its row in that channel's kernel.
+struct KernelRow {
+    channel: usize,
     row: usize,
 }
 
-// The part of the input that is row p of a plane, counted from the start of the padding: empty outside the input.
-fn row_part(
-    input: &[f32],
-    plane: usize,
-    begin: usize,
-    height: usize,
-    width: usize,
-    p: usize,
-) -> &[f32]
+// The part of the input that is the row of a plane at which a tap lies: empty outside the input.
+fn row_part(input: &[f32], plane: usize, height: usize, width: usize, tap: Tap) -> &[f32]
     requires { ⌜ (1 ≤ width) × ((plane * height + height) * width ≤ length (now input)) ⌝ }
-    ensures { λ r. ⌜ now r ≡ rowPart (now (input .entry)) plane begin height width p ⌝ }
+    requires { ⌜ Below height tap ⌝ }
+    ensures { λ r. ⌜ now r ≡ rowPart (now (input .entry)) plane height width tap ⌝ }
 {
-    if p < begin {
+    let Tap::At(y) = tap else {
         return &input[0..0];
-    }
-    let y = p - begin;
-    if y < height {
-        let start = (plane * height + y) * width;
-        let end = start + width;
-        &input[start..end]
-    } else {
-        &input[0..0]
-    }
+    };
+    let start = (plane * height + y) * width;
+    let end = start + width;
+    &input[start..end]
 }
 
-// The row of the input under kernel row r of the outputs with these first taps: empty outside the input.
-fn values_of(s: Shape, input: &[f32], f: FirstTap, r: usize) -> &[f32]
+// The row of the input under kernel row k of channel i, for the outputs with these first taps: empty outside the input.
+fn values_of(s: Shape, input: &[f32], f: FirstTap, i: usize, k: usize) -> &[f32]
     requires { ⌜ Grouped s × (length (now input) ≡ s .inputs) ⌝ }
-    requires { ⌜ Within s f × (r < rows s) ⌝ }
-    ensures { λ v. ⌜ now v ≡ valuesOf s (now (input .entry)) f r ⌝ }
+    requires { ⌜ Within s f × ((i < s .i) × (k < kernelRows s)) ⌝ }
+    ensures { λ v. ⌜ now v ≡ valuesOf s (now (input .entry)) f i k ⌝ }
 {
-    let height = s.y.kernel;
-    let plane = f.plane + r / height;
-    let p = f.row + r % height * s.y.dilation;
-    row_part(input, plane, s.y.begin, s.y.input, s.x.input, p)
+    let tap = row_tap(Direction::Forward, s, f.row, k as u32);
+    row_part(input, f.plane + i, input_rows(s), s.x.input as usize, tap)
 }
 
 // The weights of that kernel row.
-fn weights_of(s: Shape, kernel: &[f32], f: FirstTap, r: usize) -> &[f32]
+fn weights_of(s: Shape, kernel: &[f32], f: FirstTap, i: usize, k: usize) -> &[f32]
     requires { ⌜ Grouped s × (length (now kernel) ≡ s .weights) ⌝ }
-    requires { ⌜ Within s f × (r < rows s) ⌝ }
-    ensures { λ v. ⌜ now v ≡ weightsOf s (now (kernel .entry)) f r ⌝ }
+    requires { ⌜ Within s f × ((i < s .i) × (k < kernelRows s)) ⌝ }
+    ensures { λ v. ⌜ now v ≡ weightsOf s (now (kernel .entry)) f i k ⌝ }
 {
-    let taps = s.x.kernel;
-    let start = f.weight + r * taps;
+    let taps = s.x.kernel as usize;
+    let start = f.weight + (i * kernel_rows(s) + k) * taps;
     let end = start + taps;
     &kernel[start..end]
 }
 
-// The first taps of the row of outputs that begins with output number j.
-fn first_tap(s: Shape, j: usize) -> FirstTap
+// The first taps of row number `line` of all rows of outputs.
+fn first_tap(s: Shape, line: usize) -> FirstTap
     requires { ⌜ Grouped s ⌝ }
-    requires { ⌜ j < s .outputs ⌝ }
-    ensures { λ r. ⌜ r ≡ firstTapOf s j ⌝ }
+    requires { ⌜ line * s .x .out < s .outputs ⌝ }
+    ensures { λ r. ⌜ r ≡ firstTapOf s line ⌝ }
 {
-    let channels = s.g * s.o;
-    let p = position_of(channels, s.y.out, s.x.out, j);
-    let group = p.channel / s.o;
+    let rows = out_rows(s);
+    let plane = line / rows;
+    let row = line % rows;
     FirstTap {
-        plane: p.image * s.c + group * s.i,
-        weight: p.channel * s.taps,
-        row: p.row * s.y.stride,
+        plane: plane / s.o * s.i,
+        weight: plane % s.channels * s.taps,
+        row: row as u32,
+    }
+}
+
+// The kernel row after this one, where each channel has `rows`.
+fn next_row(at: KernelRow, rows: usize) -> KernelRow
+    requires { ⌜ (at .row < rows) × (at .channel * rows + at .row < 4096) ⌝ }
+    ensures { λ r. ⌜ (r .row < rows) × (r .channel * rows + r .row ≡ at .channel * rows + at .row + 1) ⌝ }
+{
+    let row = at.row + 1;
+    if row < rows {
+        return KernelRow {
+            channel: at.channel,
+            row,
+        };
+    }
+    KernelRow {
+        channel: at.channel + 1,
+        row: 0,
     }
 }
 
 // ---- one output after another
 
-// The sum so far, and then the taps of kernel row r, of which the first lies at column q.
+// The sum so far, and then the taps of kernel row k of channel i, of which the first lies at column q.
 fn add_row(
     s: Shape,
     input: &[f32],
     kernel: &[f32],
     f: FirstTap,
-    r: usize,
+    i: usize,
+    k: usize,
     q: usize,
     sum: f32,
 ) -> f32
     requires { ⌜ Fitting s (now input) (now kernel) ⌝ }
-    requires { ⌜ Within s f ⌝ }
-    requires { ⌜ (r < rows s) × (q ≤ 1064704) ⌝ }
-    ensures { λ v. ⌜ v ≡ sumFrom sum (λ k. tapAt (now (input .entry)) (now (kernel .entry)) (placeFrom s f q (r * s .x .kernel + k))) (s .x .kernel) ⌝ }
+    requires { ⌜ Within s f × ((i < s .i) × (k < kernelRows s)) ⌝ }
+    requires { ⌜ q ≤ lastFirstTap ⌝ }
+    ensures { λ v. ⌜ v ≡ sumFrom sum (λ x. tapAt (now (input .entry)) (now (kernel .entry)) (placeFrom s f q ((i * kernelRows s + k) * s .x .kernel + x))) (s .x .kernel) ⌝ }
 {
-    let row = values_of(s, input, f, r);
-    let weights = weights_of(s, kernel, f, r);
-    kernel_row_sum(sum, row, weights, q, s.x.dilation, s.x.begin)
+    let row = values_of(s, input, f, i, k);
+    let weights = weights_of(s, kernel, f, i, k);
+    let dilation = s.x.dilation as usize;
+    let begin = s.x.begin as usize;
+    kernel_row_sum(sum, row, weights, q, dilation, begin)
 }
 
 // The sum so far, and then all taps of the output whose first tap lies at column q: kernel row by kernel row.
 fn add_rows(s: Shape, input: &[f32], kernel: &[f32], f: FirstTap, q: usize, start: f32) -> f32
     requires { ⌜ Fitting s (now input) (now kernel) ⌝ }
-    requires { ⌜ Within s f × (q ≤ 1064704) ⌝ }
+    requires { ⌜ Within s f × (q ≤ lastFirstTap) ⌝ }
     ensures { λ v. ⌜ v ≡ sumFrom start (λ t. tapAt (now (input .entry)) (now (kernel .entry)) (placeFrom s f q t)) (s .taps) ⌝ }
 {
-    let rows = s.i * s.y.kernel;
+    let rows = kernel_rows(s);
+    let total = s.i * rows;
     let mut sum = start;
+    let mut at = KernelRow { channel: 0, row: 0 };
     let mut r = 0;
-    while r < rows {
-        sum = add_row(s, input, kernel, f, r, q, sum);
+    while r < total {
+        sum = add_row(s, input, kernel, f, at.channel, at.row, q, sum);
+        let next = next_row(at, rows);
+        at = next;
         r += 1;
     }
     sum
@@ -139,7 +164,7 @@ fn add_line_each(s: Shape, input: &[f32], kernel: &[f32], f: FirstTap, out: &mut
     requires { ⌜ Within s f × (length (now out) ≡ s .x .out) ⌝ }
     ensures { λ _. ⌜ Summed (lineTaps s (now (input .entry)) (now (kernel .entry)) f) (s .taps) (length (now (out .entry))) (now (out .entry)) (now (out .exit)) ⌝ }
 {
-    let stride = s.x.stride;
+    let stride = s.x.stride as usize;
     let mut x = 0;
     while x < out.len() {
         out[x] = add_rows(s, input, kernel, f, x * stride, out[x]);
@@ -149,24 +174,28 @@ fn add_line_each(s: Shape, input: &[f32], kernel: &[f32], f: FirstTap, out: &mut
 
 // ---- a row of outputs, side by side
 
-// The taps of kernel row r more for each of some outputs of the row with these first taps. That of the first of them lies at column q.
+// The taps of kernel row k of channel i more for each of some outputs of the row with these first taps. That of the first of them lies at column q.
 fn add_row_across(
     s: Shape,
     input: &[f32],
     kernel: &[f32],
     f: FirstTap,
-    r: usize,
+    i: usize,
+    k: usize,
     q: usize,
     out: &mut [f32],
 )
     requires { ⌜ Fitting s (now input) (now kernel) ⌝ }
-    requires { ⌜ Within s f ⌝ }
-    requires { ⌜ (r < rows s) × ((q ≤ 1040) × (length (now out) ≤ s .x .out)) ⌝ }
-    ensures { λ _. ⌜ Summed (λ x k. tapAt (now (input .entry)) (now (kernel .entry)) (placeFrom s f (q + x * s .x .stride) (r * s .x .kernel + k))) (s .x .kernel) (length (now (out .entry))) (now (out .entry)) (now (out .exit)) ⌝ }
+    requires { ⌜ Within s f × ((i < s .i) × (k < kernelRows s)) ⌝ }
+    requires { ⌜ (q ≤ 1040) × (length (now out) ≤ s .x .out) ⌝ }
+    ensures { λ _. ⌜ Summed (λ x t. tapAt (now (input .entry)) (now (kernel .entry)) (placeFrom s f (q + x * s .x .stride) ((i * kernelRows s + k) * s .x .kernel + t))) (s .x .kernel) (length (now (out .entry))) (now (out .entry)) (now (out .exit)) ⌝ }
 {
-    let row = values_of(s, input, f, r);
-    let weights = weights_of(s, kernel, f, r);
-    add_across(out, row, weights, s.x.begin, s.x.stride, s.x.dilation, q);
+    let row = values_of(s, input, f, i, k);
+    let weights = weights_of(s, kernel, f, i, k);
+    let begin = s.x.begin as usize;
+    let stride = s.x.stride as usize;
+    let dilation = s.x.dilation as usize;
+    add_across(out, row, weights, begin, stride, dilation, q);
 }
 
 // All taps of these outputs: kernel row by kernel row.
@@ -176,11 +205,15 @@ fn add_rows_across(s: Shape, input: &[f32], kernel: &[f32], f: FirstTap, q: usiz
     requires { ⌜ (q ≤ 1040) × (length (now out) ≤ s .x .out) ⌝ }
     ensures { λ _. ⌜ Summed (λ x t. tapAt (now (input .entry)) (now (kernel .entry)) (placeFrom s f (q + x * s .x .stride) t)) (s .taps) (length (now (out .entry))) (now (out .entry)) (now (out .exit)) ⌝ }
 {
-    let rows = s.i * s.y.kernel;
-    let mut row = 0;
-    while row < rows {
-        add_row_across(s, input, kernel, f, row, q, out);
-        row += 1;
+    let rows = kernel_rows(s);
+    let total = s.i * rows;
+    let mut at = KernelRow { channel: 0, row: 0 };
+    let mut done = 0;
+    while done < total {
+        add_row_across(s, input, kernel, f, at.channel, at.row, q, out);
+        let next = next_row(at, rows);
+        at = next;
+        done += 1;
     }
 }
 
@@ -191,10 +224,11 @@ fn add_line_across(s: Shape, input: &[f32], kernel: &[f32], f: FirstTap, out: &m
     ensures { λ _. ⌜ Summed (lineTaps s (now (input .entry)) (now (kernel .entry)) f) (s .taps) (length (now (out .entry))) (now (out .entry)) (now (out .exit)) ⌝ }
 {
     let n = out.len();
-    let stride = s.x.stride;
-    let last = (s.x.kernel - 1) * s.x.dilation;
-    let lo = columns_before(last, stride, s.x.begin, n);
-    let hi = columns_before(0, stride, s.x.begin + s.x.input, n);
+    let stride = s.x.stride as usize;
+    let begin = s.x.begin as usize;
+    let last = (s.x.kernel as usize - 1) * s.x.dilation as usize;
+    let lo = columns_before(last, stride, begin, n);
+    let hi = columns_before(0, stride, begin + s.x.input as usize, n);
     let from = f.weight;
     let to = from + s.taps;
     let weights = &kernel[from..to];
@@ -225,7 +259,7 @@ fn fill_line(s: Shape, input: &[f32], kernel: &[f32], line: usize, out: &mut [f3
     ensures { λ _. ⌜ now (out .exit) ≡ tabulate (λ x. outputOf (placeOf s) (s .taps) (now (input .entry)) (now (kernel .entry)) (line * s .x .out + x)) (s .x .out) ⌝ }
 {
     start(out, kernel[0]);
-    let f = first_tap(s, line * s.x.out);
+    let f = first_tap(s, line);
     add_line(s, input, kernel, f, out);
 }
 
@@ -233,9 +267,9 @@ fn fill_line(s: Shape, input: &[f32], kernel: &[f32], line: usize, out: &mut [f3
 fn fill(s: Shape, input: &[f32], kernel: &[f32], output: &mut [f32])
     requires { ⌜ Fitting s (now input) (now kernel) ⌝ }
     requires { ⌜ length (now output) ≡ s .outputs ⌝ }
-    ensures { λ _. ⌜ now (output .exit) ≡ outputsOf (placeOf s) (s .taps) (s .outputs) (now (input .entry)) (now (kernel .entry)) ⌝ }
+    ensures { λ _. ⌜ now (output .exit) ≡ tabulate (outputOf (placeOf s) (s .taps) (now (input .entry)) (now (kernel .entry))) (s .outputs) ⌝ }
 {
-    let width = s.x.out;
+    let width = s.x.out as usize;
     let mut line = 0;
     let mut start = 0;
     while start < output.len() {
@@ -253,10 +287,10 @@ pub fn convolution(layer: Layer, input: &[f32], kernel: &[f32], output: &mut [f3
     ensures whole { λ r. ⌜ (r .number ≡ 0 → WholeOutputs Op.Convolution placeOf layer (now (input .entry)) (now (kernel .entry)) (now (output .exit))) ⌝ }
     ensures finite { λ r. ⌜ (r .number ≡ 0 → FiniteOutputs (now (output .exit))) ⌝ }
 {
-    let verdict = check_call(Op::Convolution, layer, input, kernel, output.len());
+    let verdict = check_sum(Op::Convolution, layer, input, kernel, output.len());
     match verdict {
-        Verdict::Invalid(answer) => answer,
-        Verdict::Valid(s) => {
+        Verdict::Refuse(answer) => answer,
+        Verdict::Run(s) => {
             fill(s, input, kernel, output);
             Answer::numbered(0)
         }

@@ -1,5 +1,5 @@
--- The outputs with every tap outside are summed from the weights alone, the others kernel row by kernel row: `outside-part` and `rows-part` put the three parts
--- together.
+-- The outputs with every tap outside are summed from the weights alone, the others kernel row by kernel row: `outside-part` and `rows-part` put the three
+-- parts together.
 use borrow.Author.Needs.{needs}
 use mathlib.Core.Path.{_≡_}
 use Prim.Native.Nat.{_+_, _-_, _*_, _≤_}
@@ -20,21 +20,21 @@ numbers c =
     let k = c .pre .0 .kernel-length in
     (mul-le-mul {n₂ = 64} {m₂ = 16} (omega (arith, x .kernel-64)) (x .dilation-16), (omega (arith, c .pre .1 .0 .weight), omega (arith, c .pre .0 .shape .weights-max)))
 
-parts : (c : tie.After-columns-before2) → LineParts (c .before .before .before .before .before .before .before .before .args .s .x) (c .before .before .columns-before .result) (c .columns-before2 .result)
+parts : (c : tie.After-columns-before2) → LineParts (c .before .before .before .before .before .before .before .before .before .before .args .s .x) (c .before .before .columns-before .result) (c .columns-before2 .result)
 parts c =
-    let a = c .before .before .before .before .before .before .before .before in
+    let a = c .before .before .before .before .before .before .before .before .before .before in
     line-parts (a .args .s .x) (a .pre .0 .shape .sound .x) (a .pre .1 .1) (omega arith) (omega arith) (columns-before (a .pre .0 .shape .sound .x .stride-1) (c .before .before .columns-before .ensures)) (columns-before (a .pre .0 .shape .sound .x .stride-1) (c .columns-before2 .ensures))
 
 add-rows-across-requires : tie.Need-add-rows-across-requires
 add-rows-across-requires c κs =
     let b = c .before .before .before .before .before .before .before in
-    let a = b .before .before .before .before .before .before .before .before in
+    let a = b .before .before .before .before .before .before .before .before .before .before in
     (a .pre .0, (a .pre .1 .0, (omega (arith, parts b .small), rw length-take (omega (arith, parts b .most)))))
 
 returns : tie.Need-returns
 returns c =
     let b = c .before .before .before .before .before .before .before .before .before .before .before .before .before .before in
-    let a = b .before .before .before .before .before .before .before .before in
+    let a = b .before .before .before .before .before .before .before .before .before .before in
     let n : length (now (a .args .out)) ≡ a .args .s .x .out = a .pre .1 .1 in
     let p = parts b in
     let w = numbers a .1 .0 in
@@ -53,13 +53,16 @@ pub add-line-across-spec : {M : Type 1} → statement M
 add-line-across-spec =
     tie.close
     (tie.spec
-    (λ c. search needs) (λ c. omega (arith, numbers (c .before .before .before .before .before))) (λ c κs. search needs)
-    (λ c. search needs) (λ c κs. search needs)
-    (λ c. omega (arith, numbers (c .before .before .before .before .before .before .before .before .before)))
-    (λ c. omega (arith, numbers (c .before .before .before .before .before .before .before .before .before)))
+    (λ c. search needs) (λ c. search needs) (λ c. search needs) (λ c. search needs) (λ c. search needs)
+    (λ c. omega (arith, numbers (c .before .before .before .before .before .before .before))) (λ c κs. search needs)
+    (λ c. search needs)
+    (λ c. omega (arith, c .before .before .before .before .before .before .before .before .before .pre .0 .shape .sound .x))
+    (λ c κs. search needs)
+    (λ c. omega (arith, numbers (c .before .before .before .before .before .before .before .before .before .before .before)))
+    (λ c. omega (arith, numbers (c .before .before .before .before .before .before .before .before .before .before .before)))
     (λ c. search needs) (λ c. search needs)
-    (λ c. numbers (c .before .before .before .before .before .before .before .before .before) .1 .0) (λ c. search needs)
-    (λ c. search needs) (λ c. omega (arith, parts (c .before .before))) (λ c κs. search needs)
+    (λ c. numbers (c .before .before .before .before .before .before .before .before .before .before .before) .1 .0)
+    (λ c. search needs) (λ c. search needs) (λ c. omega (arith, parts (c .before .before))) (λ c κs. search needs)
     (λ c. omega (arith, parts (c .before .before .before .before .before .before)))
     (λ c. omega (arith, parts (c .before .before .before .before .before .before)))
     (λ c. parts (c .before .before .before .before .before .before) .order)

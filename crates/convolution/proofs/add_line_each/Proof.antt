@@ -6,7 +6,7 @@ use native.Mathlib.Omega.{arith}
 use lib.ListN.{length, length-set}
 use Rattle.rows.specs.Rows.{Summed}
 use Rattle.rows.proofs.Rows.{summed-none, summed-next, summed-whole}
-use Rattle.convolution.specs.Rows.{lineTaps}
+use Rattle.convolution.specs.Rows.{lastFirstTap, lineTaps}
 use Rattle.convolution.proofs.add_line_each.Statement.{statement}
 use Rattle.convolution.proofs.add_line_each.Tie as tie
 
@@ -20,14 +20,14 @@ loop-holds : tie.Need-loop-holds Inv-loop μ-loop
 loop-holds c = summed-none _ _ _
 
 -- the turn's column
-column : (c : tie.In-loop Inv-loop μ-loop) → c .before .loop .x * c .before .before .before .before .before .args .s .x .stride ≤ 1064704
+column : (c : tie.In-loop Inv-loop μ-loop) → c .before .loop .x * c .before .before .before .before .before .before .args .s .x .stride ≤ lastFirstTap
 column c =
-    let a = c .before .before .before .before .before in
+    let a = c .before .before .before .before .before .before in
     let x = a .pre .0 .shape .sound .x in
     mul-le-mul {n₂ = 66544} {m₂ = 16} (omega (arith, c .loop-test .taken, c .before .loop .inv .kept, a .pre .1 .1, x .out-66544)) (x .stride-16)
 
 add-rows-requires : tie.Need-add-rows-requires Inv-loop μ-loop
-add-rows-requires c κs = let a = c .before .before .before .before .before .before in (a .pre .0, (a .pre .1 .0, column (c .before)))
+add-rows-requires c κs = let a = c .before .before .before .before .before .before .before in (a .pre .0, (a .pre .1 .0, column (c .before)))
 
 loop-less : tie.Need-loop-less Inv-loop μ-loop
 loop-less c = simp length-set (omega arith)
@@ -42,5 +42,6 @@ pub add-line-each-spec : {M : Type 1} → statement M
 add-line-each-spec =
     tie.close
     (tie.spec
-    Inv-loop μ-loop loop-holds (λ c. omega (arith, column c)) (λ c. search needs) (λ c. search needs) add-rows-requires (λ c. search needs) (λ c. search needs) (λ c. search needs)
-    loop-less loop-again (λ c. c .before .loop .inv .kept) returns)
+    Inv-loop μ-loop (λ c. search needs) loop-holds (λ c. omega (arith, column c)) (λ c. search needs)
+    (λ c. search needs) add-rows-requires (λ c. search needs) (λ c. search needs) (λ c. search needs) loop-less
+    loop-again (λ c. c .before .loop .inv .kept) returns)

@@ -1,48 +1,64 @@
--- Invariant: `sum` is that of the taps of the first r kernel rows. One turn is one row more.
-use borrow.Author.Needs.{needs}
-use mathlib.Core.Path.{_≡_, refl, sym, _∙_}
-use Prim.Native.Nat.{_≤_, _*_, _-_, zero-le}
+-- Invariant: `at` is kernel row number r, and `sum` is that of the taps of the first r kernel rows. One turn is one row more.
+use mathlib.Core.Path.{_≡_, sym, ap, _∙_}
+use Prim.Native.Nat.{ℕ, _+_, _*_, _-_, _≤_, _<_, zero-le}
 use native.Mathlib.Omega.{arith}
 use native.Mathlib.Nat.{zero-mul}
+use Rattle.shape.specs.Volumes.{kernelRows}
 use Rattle.sums.specs.Taps.{tapAt, sumFrom}
 use Rattle.sums.proofs.Sums.{sum-start, sum-row}
-use Rattle.call.specs.Fitting.{rows}
-use Rattle.call.proofs.Products.{products}
 use Rattle.convolution.specs.Rows.{placeFrom}
+use Rattle.convolution.proofs.Bounds.{RowsBounds, rows-bounds}
 use Rattle.convolution.proofs.add_rows.Statement.{statement}
 use Rattle.convolution.proofs.add_rows.Tie as tie
 
 abbrev Inv-loop : tie.InvT-loop
-Inv-loop s input kernel f q start rows sum₀ r₀ sum r = (r ≤ rows) × (sum ≡ sumFrom start (λ t. tapAt input kernel (placeFrom s f q t)) (r * s .x .kernel))
+Inv-loop s input kernel f q start rows total sum₀ at₀ r₀ sum at r =
+    (r ≤ total) × (at .row < rows) × (at .channel * rows + at .row ≡ r) × (sum ≡ sumFrom start (λ t. tapAt input kernel (placeFrom s f q t)) (r * s .x .kernel))
 
 abbrev μ-loop : tie.MeasureT-loop
-μ-loop s input kernel f q start rows sum₀ r₀ sum r = rows - r
+μ-loop s input kernel f q start rows total sum₀ at₀ r₀ sum at r = total - r
 
--- kernel rows are few
-few : (c : tie.Start Inv-loop μ-loop) → rows (c .args .s) ≤ 4096
-few c = omega (arith, products (c .args .s) (c .pre .0 .shape) .rows-taps, c .pre .0 .shape .taps-4096)
+bounds : (c : tie.After-kernel-rows Inv-loop μ-loop) → RowsBounds (c .before .before .before .args .s) (c .kernel-rows .result)
+bounds c = let a = c .before .before .before in rows-bounds (a .args .s) (a .pre .0 .shape) (c .kernel-rows .ensures)
 
 loop-holds : tie.Need-loop-holds Inv-loop μ-loop
-loop-holds c = (zero-le, sym (rw zero-mul (sum-start _ _)))
+loop-holds c = (zero-le, bounds (c .before) .some, omega (arith, zero-mul (c .before .kernel-rows .result)), sym (rw zero-mul (sum-start _ _)))
 
 add-row-requires : tie.Need-add-row-requires Inv-loop μ-loop
 add-row-requires c κs =
-    let a = c .before .before .before .before .before in
-    (a .pre .0, (a .pre .1 .0, (omega (arith, c .loop-test .taken, c .before .loop .inv .0), a .pre .1 .1)))
+    let l = c .before .loop in
+    let k = c .before .before .before in
+    let a = k .before .before .before in
+    (a .pre .0, ((a .pre .1 .0, (bounds k .channel (l .at .channel) (l .inv .1) (omega (arith, l .inv .2, c .loop-test .taken)), omega (arith, l .inv .1, k .kernel-rows .ensures))), a .pre .1 .1))
+
+next-row-requires : tie.Need-next-row-requires Inv-loop μ-loop
+next-row-requires c κs =
+    let l = c .before .before .loop in
+    (l .inv .1, omega (arith, l .inv .2, c .before .loop-test .taken, bounds (c .before .before .before .before) .few))
 
 loop-again : tie.Need-loop-again Inv-loop μ-loop
-loop-again c = (search needs, c .add-row .ensures ∙ sum-row _ _ _ _ _ (c .before .before .loop .inv .1))
+loop-again c =
+    let l = c .before .before .before .loop in
+    let k = c .before .before .before .before .before in
+    let n : l .at .channel * kernelRows (k .before .before .before .args .s) + l .at .row ≡ l .r = ap (λ (h : ℕ). l .at .channel * h + l .at .row) (sym (k .kernel-rows .ensures)) ∙ l .inv .2 in (
+      omega (arith, c .before .before .loop-test .taken),
+      c .next-row .ensures .0,
+      omega (arith, c .next-row .ensures .1, l .inv .2),
+      rw n at (c .before .add-row .ensures) ∙ sum-row _ _ _ (l .r) _ (l .inv .3),
+    )
 
 returns : tie.Need-returns Inv-loop μ-loop
 returns c =
-    let a = c .before .before .before .before .before in
-    let e : c .before .loop .r ≡ rows (a .args .s) = omega (arith, c .before .loop .inv .0, c .loop-test .left) in
-    let k : c .before .loop .r * a .args .s .x .kernel ≡ a .args .s .taps = rw (e, a .pre .0 .shape .taps-is) refl in
-    rw k at (c .before .loop .inv .1)
+    let l = c .before .loop in
+    let k = c .before .before .before in
+    let s = k .before .before .before .args .s in
+    let e : l .r ≡ s .i * k .kernel-rows .result = omega (arith, l .inv .0, c .loop-test .left) in
+    rw (ap (λ (n : ℕ). n * s .x .kernel) e ∙ bounds k .taps) at (l .inv .3)
 
 pub add-rows-spec : {M : Type 1} → statement M
 add-rows-spec =
     tie.close
     (tie.spec
-    Inv-loop μ-loop (λ c. omega (arith, few (c .before .before .before))) loop-holds add-row-requires
-    (λ c. omega (arith, few (c .before .before .before .before .before .before))) (λ c. search needs) loop-again returns)
+    Inv-loop μ-loop (λ c κs. tt) (λ c. omega (arith, bounds (c .before) .few)) loop-holds add-row-requires next-row-requires
+    (λ c. omega (arith, c .before .before .loop-test .taken, bounds (c .before .before .before .before .before) .few)) (λ c. omega (arith, c .before .before .loop-test .taken))
+    loop-again returns)

@@ -1,57 +1,69 @@
--- Invariant: every output has the taps of its first r kernel rows. One turn is one kernel row more for each.
-use borrow.Author.Needs.{needs}
-use mathlib.Core.Path.{_≡_, refl}
-use Prim.Native.Nat.{_+_, _*_, _-_, _≤_, zero-le}
+-- Invariant: `at` is kernel row number `done`, and every output has the taps of its first `done` kernel rows. One turn is one row more for each.
+use mathlib.Core.Path.{_≡_, sym, ap, _∙_}
+use Prim.Native.Nat.{ℕ, _+_, _*_, _-_, _≤_, _<_, zero-le}
 use native.Mathlib.Omega.{arith}
 use native.Mathlib.Nat.{zero-mul}
 use lib.ListN.{length}
+use Rattle.shape.specs.Volumes.{kernelRows}
 use Rattle.sums.specs.Taps.{tapAt}
 use Rattle.rows.specs.Rows.{Summed}
 use Rattle.rows.proofs.Rows.{summed-start, summed-row}
-use Rattle.call.specs.Fitting.{rows}
-use Rattle.call.proofs.Products.{products}
 use Rattle.convolution.specs.Rows.{placeFrom}
+use Rattle.convolution.proofs.Bounds.{RowsBounds, rows-bounds}
 use Rattle.convolution.proofs.add_rows_across.Statement.{statement}
 use Rattle.convolution.proofs.add_rows_across.Tie as tie
 
 abbrev Inv-loop : tie.InvT-loop
-Inv-loop s input kernel f q out₀ rows row₀ out row =
-    (row ≤ rows) × Summed (λ x t. tapAt input kernel (placeFrom s f (q + x * s .x .stride) t)) (row * s .x .kernel) (length out₀) out₀ out
+Inv-loop s input kernel f q out₀ rows total at₀ done₀ out at done =
+    (done ≤ total) × (at .row < rows) × (at .channel * rows + at .row ≡ done) × Summed (λ x t. tapAt input kernel (placeFrom s f (q + x * s .x .stride) t)) (done * s .x .kernel) (length out₀) out₀ out
 
 abbrev μ-loop : tie.MeasureT-loop
-μ-loop s input kernel f q out₀ rows row₀ out row = rows - row
+μ-loop s input kernel f q out₀ rows total at₀ done₀ out at done = total - done
+
+bounds : (c : tie.After-kernel-rows Inv-loop μ-loop) → RowsBounds (c .before .before .before .before .args .s) (c .kernel-rows .result)
+bounds c = let a = c .before .before .before .before in rows-bounds (a .args .s) (a .pre .0 .shape) (c .kernel-rows .ensures)
 
 loop-holds : tie.Need-loop-holds Inv-loop μ-loop
-loop-holds c = (zero-le, rw zero-mul (summed-start _ _ _))
+loop-holds c = (zero-le, bounds (c .before) .some, omega (arith, zero-mul (c .before .kernel-rows .result)), rw zero-mul (summed-start _ _ _))
 
 add-row-across-requires : tie.Need-add-row-across-requires Inv-loop μ-loop
 add-row-across-requires c κs =
-    let l = c .before .before in
-    let a = l .before .before .before .before .before in
-    (a .pre .0, (a .pre .1 .0, (omega (arith, c .before .loop-test .taken, l .loop .inv .0), (a .pre .1 .1 .0, omega (arith, a .pre .1 .1 .1, l .loop .inv .1 .kept)))))
+    let l = c .before .before .loop in
+    let k = c .before .before .before .before in
+    let a = k .before .before .before .before in
+    (a .pre .0, ((a .pre .1 .0, (bounds k .channel (l .at .channel) (l .inv .1) (omega (arith, l .inv .2, c .before .loop-test .taken)), omega (arith, l .inv .1, k .kernel-rows .ensures))), (a .pre .1 .1 .0, omega (arith, a .pre .1 .1 .1, l .inv .3 .kept))))
 
--- kernel rows are few
-few : (c : tie.Start Inv-loop μ-loop) → rows (c .args .s) ≤ 4096
-few c = omega (arith, products (c .args .s) (c .pre .0 .shape) .rows-taps, c .pre .0 .shape .taps-4096)
+next-row-requires : tie.Need-next-row-requires Inv-loop μ-loop
+next-row-requires c κs =
+    let t = c .before .before .before .before in
+    let l = t .before .loop in
+    (l .inv .1, omega (arith, l .inv .2, t .loop-test .taken, bounds (t .before .before .before) .few))
 
 loop-again : tie.Need-loop-again Inv-loop μ-loop
 loop-again c =
-    let l = c .before .before .before .before .before in
-    let n = l .loop .inv .1 .kept in
-    (omega (arith, c .before .before .before .before .loop-test .taken), summed-row _ (l .loop .row) _ (l .loop .inv .1) (rw n at (c .before .before .add-row-across .ensures)))
+    let t = c .before .before .before .before .before in
+    let l = t .before .loop in
+    let k = t .before .before .before in
+    let n : l .at .channel * kernelRows (k .before .before .before .before .args .s) + l .at .row ≡ l .done = ap (λ (h : ℕ). l .at .channel * h + l .at .row) (sym (k .kernel-rows .ensures)) ∙ l .inv .2 in (
+      omega (arith, t .loop-test .taken),
+      c .next-row .ensures .0,
+      omega (arith, c .next-row .ensures .1, l .inv .2),
+      summed-row _ (l .done) _ (l .inv .3) (rw (l .inv .3 .kept, n) at (c .before .before .before .add-row-across .ensures)),
+    )
 
 returns : tie.Need-returns Inv-loop μ-loop
 returns c =
     let l = c .before .loop in
-    let a = c .before .before .before .before .before .before in
-    let e : l .row ≡ rows (a .args .s) = omega (arith, l .inv .0, c .loop-test .left) in
-    let k : l .row * a .args .s .x .kernel ≡ a .args .s .taps = rw (e, a .pre .0 .shape .taps-is) refl in
-    rw k at (l .inv .1)
+    let k = c .before .before .before in
+    let s = k .before .before .before .before .args .s in
+    let e : l .done ≡ s .i * k .kernel-rows .result = omega (arith, l .inv .0, c .loop-test .left) in
+    rw (ap (λ (n : ℕ). n * s .x .kernel) e ∙ bounds k .taps) at (l .inv .3)
 
 pub add-rows-across-spec : {M : Type 1} → statement M
 add-rows-across-spec =
     tie.close
     (tie.spec
-    Inv-loop μ-loop (λ c. omega (arith, few (c .before .before .before .before))) loop-holds add-row-across-requires
-    (λ c. omega (arith, few (c .before .before .before .before .before .before .before .before .before .before)))
-    (λ c. search needs) loop-again (λ c. c .before .loop .inv .1 .kept) returns)
+    Inv-loop μ-loop (λ c κs. tt) (λ c. omega (arith, bounds (c .before) .few)) loop-holds add-row-across-requires next-row-requires
+    (λ c. let t = c .before .before .before .before .before in omega (arith, t .loop-test .taken, bounds (t .before .before .before) .few))
+    (λ c. omega (arith, c .before .before .before .before .before .loop-test .taken)) loop-again
+    (λ c. c .before .loop .inv .3 .kept) returns)
