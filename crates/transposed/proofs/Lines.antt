@@ -1,29 +1,29 @@
 -- One tap of a kernel row over one row of the input: it reaches outputs a stride apart, and the input positions that it reaches follow one another.
-use mathlib.Core.Path.{_≡_, refl}
+use mathlib.Core.Path.{_≡_, refl, sym}
 use mathlib.Core.Bool.{Bool, true, false, cond, _&&_, _||_}
 use mathlib.Core.List.{List, _++_}
 use Prim.Native.Nat.{ℕ, _+_, _-_, _*_, _/_, _%_, _≤_, _<_}
 use native.Mathlib.Nat.{le-refl, add-zero, mul-le-mul-right, mul-add-div-right, mul-add-mod-self-right}
 use native.Mathlib.Decide.{decLt}
 use native.Mathlib.Omega.{arith}
-use borrow.Author.Tests.{leb-true, leb-false, lt-ltb, le-ltb, le-leb, lt-leb}
+use borrow.Author.Tests.{leb-true, leb-false, eqb-true, lt-ltb, le-ltb, le-leb, lt-leb}
 use lib.Dec.{leb, ltb, eqb}
 use lib.ListN.{length, take, drop, length-drop}
 use lib.Seq.{getD-drop, take-all}
 use lib.Ieee.{Float, nan}
 use Rattle.layer.proofs.Tests.{or-other, or-neither}
 use Rattle.sizes.specs.Size.{ceilDiv}
+use Rattle.sizes.specs.declared.Tap.{Tap}
+use Rattle.sizes.specs.declared.Tap.the-variants.{At, Outside}
+use Rattle.sizes.specs.Joins.{positionBy, reachOf}
 use Rattle.sizes.proofs.Division.{ceil-le}
+use Rattle.sizes.proofs.Joins.{reach-finds, at-finds}
 use Rattle.tensor.specs.Table.{read}
 use Rattle.tensor.proofs.Table.{part-length}
 use Rattle.sums.specs.Taps.{none, pair}
 use Rattle.rows.specs.Rows.{Summed, spread}
 use Rattle.rows.proofs.Rows.{summed-part, summed-away, summed-same}
-use Rattle.transposed.specs.declared.Reach.{Reach}
-use Rattle.transposed.specs.declared.Reach.the-variants.{At, Away}
-use Rattle.transposed.specs.Transposed.{reachOf}
 use Rattle.transposed.specs.Rows.{tapIn, rowTap}
-use Rattle.transposed.proofs.Reaching.{reach-at}
 
 -- what is left where neither of the two lengths is too small
 pub both-left : (a b c d : ℕ) → leb a b || leb c d ≡ false → (b ≤ a) × (d ≤ c)
@@ -44,12 +44,13 @@ module _ (row weights : List Float) (begin d stride k : ℕ) {first lo : ℕ} (s
   unfolding rowTap tapIn
   unreached n h = summed-away (λ x t p q. let z : k + t ≡ k = omega arith in rw z (go x p (reachOf (length row) d stride (x + begin) k) refl))
     where
-      go : (x : ℕ) → x < n → (t : Reach) → t ≡ reachOf (length row) d stride (x + begin) k → tapIn t (λ i. pair (read row i) (read weights k)) ≡ none
+      go : (x : ℕ) → x < n → (t : Tap) → t ≡ reachOf (length row) d stride (x + begin) k → tapIn t (λ i. pair (read row i) (read weights k)) ≡ none
       go x p (At i) e =
-          let r = reach-at (length row) d stride (x + begin) k e in
-          let f : first ≤ i = rw ef (ceil-le (begin - k * d) i s .1 (omega (arith, r .position))) in
-          absurd (h x i p f (r .inside) (omega (arith, r .position, mul-le-mul-right stride f)))
-      go x p Away e = refl
+          let u = at-finds (length row) _ (reachOf (length row) d stride (x + begin) k) i (reach-finds (length row) d stride (x + begin) k s) (sym e) in
+          let r = eqb-true (i * stride + k * d) (x + begin) (u .1) in
+          let f : first ≤ i = rw ef (ceil-le (begin - k * d) i s .1 (omega arith)) in
+          absurd (h x i p f (u .0) (omega (arith, mul-le-mul-right stride f)))
+      go x p Outside e = refl
 
   -- no output is reached of a row that ends at lo or before it, or from an input that ends at `first` or before it
   pub tap-away : {l : List Float} → leb (length row) first || leb (length l) lo ≡ true → Tapped row weights begin d stride k (length l) l l
@@ -57,7 +58,7 @@ module _ (row weights : List Float) (begin d stride k : ℕ) {first lo : ℕ} (s
 
   -- output lo + x is reached where the stride divides x, from `first` and as many positions more
   spread-tap : (x : ℕ) → spread (drop first row) (read weights k) stride x 0 ≡ rowTap row weights (lo + x + begin) d stride k
-  unfolding rowTap tapIn reachOf
+  unfolding rowTap tapIn reachOf positionBy
   spread-tap x =
       let c = cover begin (k * d) stride s ef in
       let z : lo + x + begin - k * d ≡ first * stride + x = omega arith in
@@ -65,7 +66,7 @@ module _ (row weights : List Float) (begin d stride k : ℕ) {first lo : ℕ} (s
       (go (eqb (x % stride) 0) (decLt (first + x / stride) (length row)))
     where
       go : (b : Bool) → Dec (first + x / stride < length row) → cond (b && ltb (x / stride) (length row - first)) (pair (read row (first + x / stride)) (read weights k)) none
-          ≡ tapIn (cond b (cond (ltb (first + x / stride) (length row)) (At (first + x / stride)) Away) Away) (λ i. pair (read row i) (read weights k))
+          ≡ tapIn (cond b (cond (ltb (first + x / stride) (length row)) (At (first + x / stride)) Outside) Outside) (λ i. pair (read row i) (read weights k))
       go false h = refl
       go true (yes h) = rw (lt-ltb (first + x / stride) (length row) h, lt-ltb (x / stride) (length row - first) (omega arith))
       go true (no h) = rw (le-ltb (first + x / stride) (length row) (omega arith), le-ltb (x / stride) (length row - first) (omega arith))

@@ -1,52 +1,49 @@
--- For the code, and no part of what is promised: an output's taps from its first tap on, by rows of the kernel. proofs/Places.antt joins them to `placeOf`.
+-- For the code, and no part of what is promised: the taps of a row of outputs from its first taps on, by rows of the kernel. proofs/Places.antt joins them to
+-- `placeOf`. A line is a row of an output plane, numbered through all planes.
 use Prim.Native.Nat.{ℕ, _+_, _*_, _/_, _%_, _≤_, _<_}
-use mathlib.Core.Bool.{cond}
 use mathlib.Core.List.{List}
-use lib.Dec.{ltb}
 use lib.ListN.{length, take, drop}
 use lib.Ieee.{Float}
+use Rattle.sizes.specs.declared.Tap.{Tap}
+use Rattle.sizes.specs.declared.Tap.the-variants.{Outside, At}
+use Rattle.sizes.specs.Joins.{reachOf, backward}
 use Rattle.shape.specs.declared.Shape.{Shape}
-use Rattle.tensor.specs.declared.Position.{Position}
-use Rattle.tensor.specs.Places.{positionOf}
+use Rattle.shape.specs.Volumes.{inputRows, kernelRows, outRows, onRows}
 use Rattle.tensor.specs.Table.{read}
-use Rattle.sums.specs.Taps.{Place, at, Tap, none, pair}
+use Rattle.sums.specs.Taps.{Place, missing, at, Factors, none, pair}
 use Rattle.transposed.specs.declared.FirstTap.{FirstTap}
-use Rattle.transposed.specs.declared.Reach.{Reach}
-use Rattle.transposed.specs.declared.Reach.the-variants.{At, Away}
-use Rattle.transposed.specs.Transposed.{reachOf, meet}
 
--- a position along an axis of this size, if it lies inside
-abbrev pub positionIn : ℕ → ℕ → Reach
-positionIn size q = cond (ltb q size) (At q) Away
-
--- the first taps of the row of outputs at a position: their plane of the input and of the kernel, and the outputs' row counted from the start of the padding
-abbrev pub firstTapAt : Shape → Position → FirstTap
-firstTapAt s p =
+-- the first taps of a line: their plane of the input and of the kernel, and the line's row in its plane
+abbrev pub firstTapOf : Shape → ℕ → FirstTap
+firstTapOf s line =
     record {
-      plane = p .image * s .c + p .channel / s .o * s .i;
-      weight = p .channel / s .o * s .i * s .o + p .channel % s .o;
-      row = p .row + s .y .begin;
+      plane = line / outRows s / s .o * s .i;
+      weight = line / outRows s % s .channels / s .o * s .i * s .o + line / outRows s % s .channels % s .o;
+      row = line % outRows s;
     }
 
--- those of the row of output number j
-abbrev pub firstTapOf : Shape → ℕ → FirstTap
-firstTapOf s j = firstTapAt s (positionOf (s .g * s .o) (s .y .out) (s .x .out) j)
+-- a tap takes part where it reaches a row and a column
+unfoldable pub meet : Tap → Tap → (ℕ → ℕ → Place) → Place
+meet (At iy) (At ix) place = place iy ix
+meet (At iy) Outside place = missing
+meet Outside (At ix) place = missing
+meet Outside Outside place = missing
 
--- tap number t from a first tap on, of the output at this column, counted from the start of the padding
+-- tap number t from first taps on, of the output at this column, counted from the start of the padding
 unfoldable pub placeFrom : Shape → FirstTap → ℕ → ℕ → Place
 placeFrom s f column t =
-    meet (reachOf (s .y .input) (s .y .dilation) (s .y .stride) (f .row) (t / s .x .kernel % s .y .kernel))
+    meet (onRows backward s (f .row) (t / s .x .kernel % kernelRows s))
     (reachOf (s .x .input) (s .x .dilation) (s .x .stride) column (t % s .x .kernel))
     (λ y x. at
-    (((f .plane + t / s .x .kernel / s .y .kernel) * s .y .input + y) * s .x .input + x)
-    (((f .weight + t / s .x .kernel / s .y .kernel * s .o) * s .y .kernel + t / s .x .kernel % s .y .kernel) * s .x .kernel + t % s .x .kernel))
+    (((f .plane + t / s .x .kernel / kernelRows s) * inputRows s + y) * s .x .input + x)
+    (((f .weight + t / s .x .kernel / kernelRows s * s .o) * kernelRows s + t / s .x .kernel % kernelRows s) * s .x .kernel + t % s .x .kernel))
 
 -- one kernel row over one row of the input
-unfoldable pub tapIn : Reach → (ℕ → Tap) → Tap
+unfoldable pub tapIn : Tap → (ℕ → Factors) → Factors
 tapIn (At x) f = f x
-tapIn Away f = none
+tapIn Outside f = none
 
-unfoldable pub rowTap : List Float → List Float → ℕ → ℕ → ℕ → ℕ → Tap
+unfoldable pub rowTap : List Float → List Float → ℕ → ℕ → ℕ → ℕ → Factors
 rowTap row weights p dilation stride k = tapIn (reachOf (length row) dilation stride p k) (λ x. pair (read row x) (read weights k))
 
 -- row `row` of a tensor whose rows have `width` elements

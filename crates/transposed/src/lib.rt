@@ -1,6 +1,6 @@
 // Transposed convolution over lent f32 tensors.
 use call::Verdict;
-use call::check_call;
+use call::check_sum;
 use layer::Answer;
 use layer::Layer;
 use layer::Op;
@@ -8,62 +8,37 @@ use rows::add_spread;
 use rows::start;
 use rows::steps;
 use shape::Shape;
+use shape::input_rows;
+use shape::kernel_rows;
+use shape::out_rows;
+use shape::row_tap;
+use sizes::Direction;
+use sizes::Tap;
 use sizes::minus;
-use tensor::position_of;
 ghost use mathlib.Core.Path.{_≡_};
 ghost use Prim.Native.Nat.{_+_, _*_, _≤_, _<_};
 ghost use lib.ListN.{length};
 ghost use Rattle.shape.specs.Facts.{Grouped};
+ghost use Rattle.shape.specs.Volumes.{kernelRows};
 ghost use Rattle.tensor.specs.Table.{tabulate};
-ghost use Rattle.sums.specs.Taps.{tapAt, outputOf, outputsOf};
+ghost use Rattle.sums.specs.Taps.{tapAt, outputOf};
 ghost use Rattle.rows.specs.Rows.{Summed};
 ghost use Rattle.call.specs.Call.{answerOf, contentsOf, WholeOutputs, FiniteOutputs};
-ghost use Rattle.call.specs.Fitting.{rows, Fitting};
-ghost use Rattle.transposed.specs.Transposed.{reachOf, placeOf};
-ghost use Rattle.transposed.specs.Rows.{positionIn, firstTapOf, placeFrom, rowTap, rowOf, Within};
+ghost use Rattle.call.specs.Fitting.{Fitting};
+ghost use Rattle.transposed.specs.Transposed.{placeOf};
+ghost use Rattle.transposed.specs.Rows.{firstTapOf, placeFrom, rowTap, rowOf, Within};
 
-// The input position that a tap reaches along one axis, if any.
-pub enum Reach {
-    At(usize),
-    Away,
+// The first taps of a row of outputs: their plane of the input and of the kernel, and the row's number in its plane.
+struct FirstTap {
+    plane: usize,
+    weight: usize,
+    row: u32,
 }
 
-// The first taps of a row of outputs: their plane of the input and of the kernel, and the outputs' row, counted from the start of the padding.
-pub struct FirstTap {
-    pub plane: usize,
-    pub weight: usize,
-    pub row: usize,
-}
-
-// A position along an axis of the input, if it lies inside.
-fn position(size: usize, at: usize) -> Reach
-    ensures { λ r. ⌜ r ≡ positionIn size at ⌝ }
-{
-    if at < size {
-        Reach::At(at)
-    } else {
-        Reach::Away
-    }
-}
-
-// The input position that tap k reaches from p, counted from the start of the padding. A stride of 1 needs no division.
-fn reach_of(size: usize, dilation: usize, stride: usize, p: usize, k: usize) -> Reach
-    requires { ⌜ (1 ≤ stride) × ((dilation ≤ 16) × (k ≤ 64)) ⌝ }
-    ensures { λ r. ⌜ r ≡ reachOf size dilation stride p k ⌝ }
-{
-    let back = k * dilation;
-    if p < back {
-        return Reach::Away;
-    }
-    let q = p - back;
-    if stride == 1 {
-        return position(size, q);
-    }
-    let rest = q % stride;
-    if rest != 0 {
-        return Reach::Away;
-    }
-    position(size, q / stride)
+// A kernel row: its channel among those of its group, and its row in that channel's kernel.
+struct KernelRow {
+    channel: usize,
+    row: usize,
 }
 
 // Tap k of a kernel row more for each output of a row that it reaches: these stand a stride apart, and the input's elements that it reaches follow one another.
@@ -119,40 +94,70 @@ fn row_of(t: &[f32], row: usize, width: usize) -> &[f32]
     &t[start..end]
 }
 
-// The first taps of the row of outputs that begins with output number j.
-fn first_tap(s: Shape, j: usize) -> FirstTap
+// The first taps of row number `line` of all rows of outputs.
+fn first_tap(s: Shape, line: usize) -> FirstTap
     requires { ⌜ Grouped s ⌝ }
-    requires { ⌜ j < s .outputs ⌝ }
-    ensures { λ r. ⌜ r ≡ firstTapOf s j ⌝ }
+    requires { ⌜ line * s .x .out < s .outputs ⌝ }
+    ensures { λ r. ⌜ r ≡ firstTapOf s line ⌝ }
 {
-    let channels = s.g * s.o;
-    let p = position_of(channels, s.y.out, s.x.out, j);
-    let first = p.channel / s.o * s.i;
+    let rows = out_rows(s);
+    let plane = line / rows;
+    let row = line % rows;
+    let channel = plane % s.channels;
     FirstTap {
-        plane: p.image * s.c + first,
-        weight: first * s.o + p.channel % s.o,
-        row: p.row + s.y.begin,
+        plane: plane / s.o * s.i,
+        weight: channel / s.o * s.i * s.o + channel % s.o,
+        row: row as u32,
     }
 }
 
-// The taps of kernel row r more for each output of the row with these first taps.
-fn add_row(s: Shape, input: &[f32], kernel: &[f32], f: FirstTap, r: usize, out: &mut [f32])
+// The taps of kernel row k of channel i more for each output of the row with these first taps.
+fn add_row(
+    s: Shape,
+    input: &[f32],
+    kernel: &[f32],
+    f: FirstTap,
+    i: usize,
+    k: usize,
+    out: &mut [f32],
+)
     requires { ⌜ Fitting s (now input) (now kernel) ⌝ }
     requires { ⌜ Within s f ⌝ }
-    requires { ⌜ (r < rows s) × (length (now out) ≡ s .x .out) ⌝ }
-    ensures { λ _. ⌜ Summed (λ x k. tapAt (now (input .entry)) (now (kernel .entry)) (placeFrom s f (x + s .x .begin) (r * s .x .kernel + k))) (s .x .kernel) (s .x .out) (now (out .entry)) (now (out .exit)) ⌝ }
+    requires { ⌜ (i < s .i) × ((k < kernelRows s) × (length (now out) ≡ s .x .out)) ⌝ }
+    ensures { λ _. ⌜ Summed (λ x j. tapAt (now (input .entry)) (now (kernel .entry)) (placeFrom s f (x + s .x .begin) ((i * kernelRows s + k) * s .x .kernel + j))) (s .x .kernel) (s .x .out) (now (out .entry)) (now (out .exit)) ⌝ }
 {
-    let height = s.y.kernel;
-    let lines = s.y.input;
-    let i = r / height;
-    let ky = r % height;
-    let reach = reach_of(lines, s.y.dilation, s.y.stride, f.row, ky);
-    let Reach::At(y) = reach else {
+    let tap = row_tap(Direction::Backward, s, f.row, k as u32);
+    let Tap::At(y) = tap else {
         return;
     };
-    let row = row_of(input, (f.plane + i) * lines + y, s.x.input);
-    let weights = row_of(kernel, (f.weight + i * s.o) * height + ky, s.x.kernel);
-    add_taps(out, row, weights, s.x.begin, s.x.dilation, s.x.stride);
+    let row = row_of(input, (f.plane + i) * input_rows(s) + y, s.x.input as usize);
+    let weights = row_of(
+        kernel,
+        (f.weight + i * s.o) * kernel_rows(s) + k,
+        s.x.kernel as usize,
+    );
+    let begin = s.x.begin as usize;
+    let dilation = s.x.dilation as usize;
+    let stride = s.x.stride as usize;
+    add_taps(out, row, weights, begin, dilation, stride);
+}
+
+// The kernel row after this one, where each channel has `rows` of them.
+fn next_row(at: KernelRow, rows: usize) -> KernelRow
+    requires { ⌜ (at .row < rows) × (at .channel ≤ 4096) ⌝ }
+    ensures { λ r. ⌜ (r .row < rows) × (r .channel * rows + r .row ≡ at .channel * rows + at .row + 1) ⌝ }
+{
+    let row = at.row + 1;
+    if row < rows {
+        return KernelRow {
+            channel: at.channel,
+            row,
+        };
+    }
+    KernelRow {
+        channel: at.channel + 1,
+        row: 0,
+    }
 }
 
 // The outputs of one row, of number `line` among all rows: kernel row by kernel row.
@@ -162,11 +167,15 @@ fn fill_line(s: Shape, input: &[f32], kernel: &[f32], line: usize, out: &mut [f3
     ensures { λ _. ⌜ now (out .exit) ≡ tabulate (λ x. outputOf (placeOf s) (s .taps) (now (input .entry)) (now (kernel .entry)) (line * s .x .out + x)) (s .x .out) ⌝ }
 {
     start(out, kernel[0]);
-    let f = first_tap(s, line * s.x.out);
-    let rows = s.i * s.y.kernel;
+    let f = first_tap(s, line);
+    let rows = kernel_rows(s);
+    let total = s.i * rows;
+    let mut at = KernelRow { channel: 0, row: 0 };
     let mut r = 0;
-    while r < rows {
-        add_row(s, input, kernel, f, r, out);
+    while r < total {
+        add_row(s, input, kernel, f, at.channel, at.row, out);
+        let next = next_row(at, rows);
+        at = next;
         r += 1;
     }
 }
@@ -175,9 +184,9 @@ fn fill_line(s: Shape, input: &[f32], kernel: &[f32], line: usize, out: &mut [f3
 fn fill(s: Shape, input: &[f32], kernel: &[f32], output: &mut [f32])
     requires { ⌜ Fitting s (now input) (now kernel) ⌝ }
     requires { ⌜ length (now output) ≡ s .outputs ⌝ }
-    ensures { λ _. ⌜ now (output .exit) ≡ outputsOf (placeOf s) (s .taps) (s .outputs) (now (input .entry)) (now (kernel .entry)) ⌝ }
+    ensures { λ _. ⌜ now (output .exit) ≡ tabulate (outputOf (placeOf s) (s .taps) (now (input .entry)) (now (kernel .entry))) (s .outputs) ⌝ }
 {
-    let width = s.x.out;
+    let width = s.x.out as usize;
     let mut line = 0;
     let mut j = 0;
     while j < output.len() {
@@ -195,10 +204,10 @@ pub fn transposed(layer: Layer, input: &[f32], kernel: &[f32], output: &mut [f32
     ensures whole { λ r. ⌜ (r .number ≡ 0 → WholeOutputs Op.Transposed placeOf layer (now (input .entry)) (now (kernel .entry)) (now (output .exit))) ⌝ }
     ensures finite { λ r. ⌜ (r .number ≡ 0 → FiniteOutputs (now (output .exit))) ⌝ }
 {
-    let verdict = check_call(Op::Transposed, layer, input, kernel, output.len());
+    let verdict = check_sum(Op::Transposed, layer, input, kernel, output.len());
     match verdict {
-        Verdict::Invalid(answer) => answer,
-        Verdict::Valid(s) => {
+        Verdict::Refuse(answer) => answer,
+        Verdict::Run(s) => {
             fill(s, input, kernel, output);
             Answer::numbered(0)
         }

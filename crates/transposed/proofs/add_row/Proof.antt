@@ -1,76 +1,70 @@
 -- A kernel row that reaches a row of the input adds its taps over the parts of the two tensors; one that does not adds nothing.
 use borrow.Author.Needs.{needs}
-use mathlib.Core.Path.{_≡_, sym, _∙_}
-use Prim.Native.Nat.{_%_}
-use native.Mathlib.Nat.{mod-lt}
+use mathlib.Core.Path.{_≡_, refl, sym, ap, _∙_}
+use Prim.Native.Nat.{ℕ, _+_, _*_}
 use native.Mathlib.Omega.{arith}
 use denote.Ref.{now}
 use lib.ListN.{length}
-use Rattle.transposed.specs.Transposed.{reachOf}
-use Rattle.transposed.specs.declared.Reach.the-variants.{At, Away}
-use Rattle.transposed.proofs.Reaching.{reach-within}
+use Rattle.sizes.specs.declared.Tap.the-variants.{At}
+use Rattle.sizes.specs.Bounds.{SpanLimits}
+use Rattle.sizes.specs.Joins.{backward}
+use Rattle.sizes.proofs.Joins.{backward-below, below-at}
+use Rattle.shape.specs.Volumes.{inputRows, kernelRows, onRows}
+use Rattle.shape.proofs.Volumes.{rows-below}
+use Rattle.transposed.specs.Rows.{rowOf}
 use Rattle.transposed.proofs.Bounds.{RowBounds, row-bounds}
-use Rattle.transposed.proofs.Rows.{line-taps, line-away, row-of-length}
+use Rattle.transposed.proofs.Rows.{row-taps, row-away, row-of-length}
 use Rattle.transposed.proofs.add_row.Statement.{statement}
 use Rattle.transposed.proofs.add_row.Tie as tie
 
-place : (c : tie.After-reach) → let a = c .before .before .before .before .before .before .args in At (c .reach .given .0 .0) ≡ reachOf (a .s .y .input) (a .s .y .dilation) (a .s .y .stride) (a .f .row) (a .r % a .s .y .kernel)
-place c = sym (c .reach .given .1) ∙ c .before .before .reach-of .ensures
+-- the kernel row lies at row y of the input
+place : (c : tie.After-tap) → let a = c .before .before .before .before .before .before .args in onRows backward (a .s) (a .f .row) (a .k) ≡ At (c .tap .given .0 .0)
+place c = sym (c .before .before .row-tap .ensures) ∙ c .tap .given .1
 
-bounds : (c : tie.After-reach) → let a = c .before .before .before .before .before .before .args in RowBounds (a .s) (a .f) (a .r) (c .reach .given .0 .0) (length (now (a .input))) (length (now (a .kernel)))
-bounds c = let a = c .before .before .before .before .before .before in row-bounds (a .args .s) (a .args .f) (a .args .r) _ _ _ (a .pre .0) (a .pre .1 .0) (a .pre .1 .1 .0) (reach-within _ _ _ _ _ (place c))
+bounds : (c : tie.After-tap) {height lines : ℕ} → let a = c .before .before .before .before .before .before .args in
+    height ≡ kernelRows (a .s) → lines ≡ inputRows (a .s) → RowBounds (a .s) (a .f) (a .i) (a .k) (c .tap .given .0 .0) height lines (length (now (a .input))) (length (now (a .kernel)))
+bounds c eh el =
+    let a = c .before .before .before .before .before .before in
+    let s = a .args .s in
+    row-bounds s (a .args .f) _ _ (a .pre .0) (a .pre .1 .0) (a .pre .1 .1 .0) (a .pre .1 .1 .1 .0) (below-at _ _ _ (rows-below backward s backward-below _ _) (place c)) eh el
 
-reach-of-requires : tie.Need-reach-of-requires
-reach-of-requires c κs =
-    let a = c .before .before .before in
-    let h = a .pre .0 .shape .sound .y in
-    (h .stride-1, (h .dilation-16, omega (arith, mod-lt (a .args .r) (h .kernel-1), h .kernel-64)))
+-- the same by the numbers that the code was told: the input's rows, and the kernel's
+lines : (c : tie.After-input-rows) → let t = c .before .before .before in let a = t .before .before .before .before .before .before .args in
+    RowBounds (a .s) (a .f) (a .i) (a .k) (t .tap .given .0 .0) (kernelRows (a .s)) (c .input-rows .result) (length (now (a .input))) (length (now (a .kernel)))
+lines c = bounds (c .before .before .before) refl (c .input-rows .ensures)
 
-away : (c : tie.After-enum-told) → let a = c .before .before .before .before .before .before .args in Away ≡ reachOf (a .s .y .input) (a .s .y .dilation) (a .s .y .stride) (a .f .row) (a .r % a .s .y .kernel)
-away c = sym (c .enum-told .given .1) ∙ c .before .before .reach-of .ensures
+weights : (c : tie.After-kernel-rows) → let t = c .before .before .before .before .before .before .before .before in let a = t .before .before .before .before .before .before .args in
+    RowBounds (a .s) (a .f) (a .i) (a .k) (t .tap .given .0 .0) (c .kernel-rows .result) (inputRows (a .s)) (length (now (a .input))) (length (now (a .kernel)))
+weights c = bounds (c .before .before .before .before .before .before .before .before) (c .kernel-rows .ensures) refl
+
+axis : (c : tie.After-row-of2) → SpanLimits (c .before .before .before .before .before .before .before .before .before .before .before .before .before .before .before .before .args .s .x)
+axis c = c .before .before .before .before .before .before .before .before .before .before .before .before .before .before .before .before .pre .0 .shape .sound .x
 
 returns : tie.Need-returns
-returns c = let a = c .before .before .before .before .before .before .args in line-away (a .s) (now (a .input)) (now (a .kernel)) (a .f) (a .r) (away c)
-
-add-row-of : tie.Need-add-row-of
-add-row-of c = omega (arith, bounds (c .before .before))
-
-mul-row-of : tie.Need-mul-row-of
-mul-row-of c = omega (arith, bounds (c .before .before))
-
-add-row-of-2 : tie.Need-add-row-of-2
-add-row-of-2 c = omega (arith, bounds (c .before .before))
-
-row-of-requires : tie.Need-row-of-requires
-row-of-requires c κs = bounds (c .before .before) .row
-
-mul-row-of-2 : tie.Need-mul-row-of-2
-mul-row-of-2 c = omega (arith, bounds (c .before .before .before .before))
-
-add-row-of-3 : tie.Need-add-row-of-3
-add-row-of-3 c = omega (arith, bounds (c .before .before .before .before .before))
-
-mul-row-of-3 : tie.Need-mul-row-of-3
-mul-row-of-3 c = omega (arith, bounds (c .before .before .before .before .before))
-
-add-row-of-4 : tie.Need-add-row-of-4
-add-row-of-4 c = omega (arith, bounds (c .before .before .before .before .before))
-
-row-of-requires-2 : tie.Need-row-of-requires-2
-row-of-requires-2 c κs = bounds (c .before .before .before .before .before) .part
+returns c =
+    let r = c .before .before in
+    let a = r .before .before .before .before in
+    row-away (a .args .s) (now (a .args .input)) (now (a .args .kernel)) (a .args .f) (a .args .i) (a .pre .1 .1 .1 .0) (sym (c .enum-told .given .1) ∙ r .row-tap .ensures)
 
 add-taps-requires : tie.Need-add-taps-requires
 add-taps-requires c κs =
-    let b = bounds (c .before .before .before .before .before .before .before) in
-    let a = c .before .before .before .before .before .before .before .before .before .before .before .before .before in
-    let x = a .pre .0 .shape .sound .x in
-    ((x .stride-1, (x .stride-16, (x .dilation-16, x .begin-1024))), rw (c .before .row-of2 .ensures, row-of-length (now (a .args .kernel)) _ (b .part)) (x .kernel-64))
+    let o = c .before .before .before .before in
+    let x = axis o in
+    ((x .stride-1, (x .stride-16, (x .dilation-16, x .begin-1024))), rw (o .row-of2 .ensures, row-of-length _ _ (weights (o .before .before) .part)) (x .kernel-64))
 
 returns-2 : tie.Need-returns-2
 returns-2 c =
-    let a = c .before .before .before .before .before .before .before .before .before .before .before .before .before .before .before .before in
-    line-taps (a .args .s) (now (a .args .input)) (now (a .args .kernel)) (a .args .f) (a .args .r) _ _ _
-    (place (c .before .before .before .before .before .before .before .before .before .before)) (c .before .before .before .before .before .before .before .row-of .ensures) (c .before .before .before .before .row-of2 .ensures) (bounds (c .before .before .before .before .before .before .before .before .before .before)) (rw (a .pre .1 .1 .1) at (c .before .before .add-taps .ensures))
+    let o = c .before .before .before .before .before .before .before in
+    let k = o .before .before in
+    let i = k .before .before .before .before .before in
+    let t = i .before .before .before in
+    let a = t .before .before .before .before .before .before in
+    let s = a .args .s in
+    let f = a .args .f in
+    row-taps s (now (a .args .input)) (now (a .args .kernel)) f (a .args .i) (a .pre .1 .1 .1 .0) _ _ _ (sym (place t))
+    (k .before .before .before .row-of .ensures ∙ ap (λ (n : ℕ). rowOf (now (a .args .input)) ((f .plane + a .args .i) * n + t .tap .given .0 .0) (s .x .input)) (i .input-rows .ensures))
+    (o .row-of2 .ensures ∙ ap (λ (n : ℕ). rowOf (now (a .args .kernel)) ((f .weight + a .args .i * s .o) * n + a .args .k) (s .x .kernel)) (k .kernel-rows .ensures))
+    (bounds t refl refl) (rw (a .pre .1 .1 .1 .1) at (c .before .before .add-taps .ensures))
 
 same-length : tie.Need-same-length
 same-length c = returns-2 c .kept
@@ -79,6 +73,11 @@ pub add-row-spec : {M : Type 1} → statement M
 add-row-spec =
     tie.close
     (tie.spec
-    (λ c. search needs) (λ c. search needs) reach-of-requires (λ c. search needs) (λ c. search needs) returns add-row-of
-    mul-row-of add-row-of-2 row-of-requires mul-row-of-2 add-row-of-3 mul-row-of-3 add-row-of-4 row-of-requires-2
-    add-taps-requires same-length returns-2)
+    (λ c. search needs) (λ c κs. search needs) (λ c. search needs) (λ c. search needs) returns
+    (λ c. omega (arith, bounds (c .before .before) refl refl)) (λ c κs. search needs) (λ c. omega (arith, lines c)) (λ c. omega (arith, lines c))
+    (λ c. search needs) (λ c κs. lines (c .before) .row)
+    (λ c. omega (arith, lines (c .before .before .before)))
+    (λ c. omega (arith, lines (c .before .before .before .before))) (λ c κs. search needs)
+    (λ c. omega (arith, weights c)) (λ c. omega (arith, weights c)) (λ c. search needs) (λ c κs. weights (c .before) .part)
+    (λ c. omega (arith, axis (c .before) .begin-1024)) (λ c. omega (arith, axis (c .before .before) .dilation-16))
+    (λ c. omega (arith, axis (c .before .before .before) .stride-16)) add-taps-requires same-length returns-2)

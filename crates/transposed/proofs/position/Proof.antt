@@ -1,7 +1,0 @@
--- Each return is one case of the definition.
-use borrow.Author.Tests.{lt-ltb, le-ltb}
-use Rattle.transposed.proofs.position.Statement.{statement}
-use Rattle.transposed.proofs.position.Tie as tie
-
-pub position-spec : {M : Type 1} → statement M
-position-spec = tie.close (tie.spec (λ c. simp (lt-ltb _ _ (c .if1 .taken))) (λ c. simp (le-ltb _ _ (c .if1 .left))))
