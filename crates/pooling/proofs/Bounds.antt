@@ -1,37 +1,35 @@
--- Bounds of the outputs of a sound shape: their positions, their rows, and the plane of the input that a row is taken from.
+-- Bounds of a line of outputs of a sound shape: its row, and the plane of the input that it is taken from.
 use Prim.Native.Nat.{ℕ, _+_, _*_, _/_, _%_, _≤_, _<_}
-use native.Mathlib.Nat.{mod-lt, le-mul-of-pos-right, mul-le-mul-right}
+use native.Mathlib.Nat.{mod-lt, mul-le-mul-right}
 use native.Mathlib.Omega.{arith}
-use mathlib.Core.Path.{_≡_, _∙_, subst}
+use mathlib.Core.Path.{_≡_, ap, _∙_}
+use Rattle.layer.proofs.Places.{part-within, div-within}
 use Rattle.shape.specs.declared.Shape.{Shape}
-use Rattle.shape.specs.Facts.{Sound}
-use Rattle.tensor.specs.Places.{positionOf, Inside}
-use Rattle.tensor.proofs.Places.{part-within, div-within, position-inside}
-use Rattle.tensor.proofs.Lines.{line-start, LineRoom, line-room}
+use Rattle.shape.specs.Facts.{Pooled}
+use Rattle.shape.specs.Volumes.{inputRows, outRows}
+use Rattle.tensor.proofs.Lines.{line-start}
+use Rattle.call.proofs.Planes.{products}
 
--- an output's position lies inside its tensor
-pub output-inside : (s : Shape) → Sound (s .c) s → (o : ℕ) → o < s .outputs
-    → Inside (s .n) (s .c) (s .y .out) (s .x .out) (positionOf (s .c) (s .y .out) (s .x .out) o)
-output-inside s h o l = position-inside (s .n) (s .c) (s .y .out) (s .x .out) o (subst (λ (n : ℕ). o < n) (h .outputs-is) l)
+-- of a line, from the numbers of rows that the code is told: its row in the plane, the number of the plane's row 0 in the input, and the plane's end
+pub record PlaneAt (s : Shape) (line rows height : ℕ) : Type 0 where
+  pub rows-1 : 1 ≤ rows
+  pub row : line % rows ≤ 16777216
+  pub first : line / rows * height ≤ 16777216
+  pub end : (line / rows * height + inputRows s) * s .x .input ≤ s .inputs
 
--- a row of the output that begins inside it
-pub output-room : (s : Shape) {line j len : ℕ} → Sound (s .c) s → len ≡ s .outputs → j ≡ line * s .x .out → j < len → LineRoom (s .x .out) line j len
-output-room s h n e l = line-room (s .n * s .c * s .y .out) (n ∙ h .outputs-is) (h .x .out-1) e l
-
--- of row number `line` of the output: its row in the plane, the number of the plane's row 0 in the input, and the end of the plane in the input
-pub record PlaneAt (s : Shape) (line : ℕ) : Type 0 where
-  pub row : line % s .y .out < s .y .out
-  pub first : line / s .y .out * s .y .input ≤ 16777216
-  pub end : (line / s .y .out * s .y .input + s .y .input) * s .x .input ≤ s .inputs
-
-pub plane-at : (s : Shape) → Sound (s .c) s → (line : ℕ) → line * s .x .out + s .x .out ≤ s .outputs → PlaneAt s line
-plane-at s h line l =
-    let lines = div-within (s .n * s .c * s .y .out) (s .x .out) {p = line * s .x .out} (omega (arith, l, h .outputs-is, h .x .out-1)) in
-    let planes = div-within (s .n * s .c) (s .y .out) (rw (line-start line {w = s .x .out} (h .x .out-1)) at lines) in
-    let rows = part-within (s .y .input) planes in
-    let all = le-mul-of-pos-right (s .n * s .c * s .y .input) (h .x .input-1) in
-    record {
-      row = mod-lt line (h .y .out-1);
-      first = omega (arith, rows, all, h .inputs-is, h .inputs-max);
+pub plane-of : (s : Shape) → Pooled s → (line : ℕ) {rows height : ℕ} → line * s .x .out + s .x .out ≤ s .outputs → rows ≡ outRows s → height ≡ inputRows s
+    → PlaneAt s line rows height
+plane-of s g line l er eh =
+    let h = g .sound in
+    let k = products s h in
+    let c : s .n * s .channels ≡ s .n * s .c = ap (λ (m : ℕ). s .n * m) (g .channels-is) in
+    let lines = div-within (s .n * s .channels * outRows s) (s .x .out) {p = line * s .x .out} (omega (arith, l, h .outputs-is, h .x .out-1)) in
+    let planes = div-within (s .n * s .channels) (outRows s) (rw (line-start line {w = s .x .out} (h .x .out-1)) at lines) in
+    let rows = part-within {a = line / outRows s} {n = s .n * s .c} (inputRows s) (omega arith) in
+    rw (er, eh)
+    (record {
+      rows-1 = h .out-rows-1;
+      row = omega (arith, mod-lt line (h .out-rows-1), k .out-rows-max);
+      first = omega (arith, rows, k .lines-inputs, h .inputs-max);
       end = omega (arith, mul-le-mul-right (s .x .input) rows, h .inputs-is);
-    }
+    })

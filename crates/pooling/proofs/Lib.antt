@@ -1,5 +1,3 @@
 pub mod Scan
-pub mod Modulus
 pub mod Bounds
 pub mod Accepted
-pub mod Largest

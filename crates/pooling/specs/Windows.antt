@@ -1,28 +1,31 @@
 -- The window of each output: "Pooling: taps as for convolution, in each plane; taps outside the input are no elements. A window holds either nothing, or a
 -- best value with its place."
-use Prim.Native.Nat.{ℕ}
-use mathlib.Core.List.{List, [], _∷_}
+use Prim.Native.Nat.{ℕ, zero, suc, _+_, _*_, _/_, _%_}
+use mathlib.Core.List.{List, [], _∷_, _++_}
 use lib.Ieee.{Float}
+use Rattle.sizes.specs.declared.Tap.{Tap}
+use Rattle.sizes.specs.declared.Tap.the-variants.{Outside, At}
+use Rattle.sizes.specs.Joins.{forward}
 use Rattle.shape.specs.declared.Shape.{Shape}
-use Rattle.tensor.specs.declared.Position.{Position}
+use Rattle.shape.specs.Volumes.{inputVolume, kernelVolume, outVolume, onPlane}
 use Rattle.tensor.specs.declared.Window.{Window}
 use Rattle.tensor.specs.declared.Window.the-variants.{Empty}
-use Rattle.tensor.specs.Places.{flatPlace, positionOf}
 use Rattle.tensor.specs.Window.{bestOf}
-use Rattle.pooling.specs.Taps.{overTaps}
 
--- The places in the input of the elements of the window at output position o, "by ky then kx"; "in each plane": pooling keeps image and channel.
-abbrev pub placesAt : Shape → Position → List ℕ
-placesAt s o =
-    overTaps (s .y) (o .row)
-    (λ row. overTaps (s .x) (o .column)
-    (λ column. flatPlace (s .c) (s .y .input) (s .x .input) (o .image) (o .channel) row column ∷ [])
-    (s .x .kernel))
-    (s .y .kernel)
+-- "taps outside the input are no elements"
+abbrev pub atTap : (ℕ → List ℕ) → Tap → List ℕ
+atTap f Outside = []
+atTap f (At q) = f q
 
--- the window of the output at flat place o of [N, C, OY, OX]: its places and what it holds
+-- what f gives for where the taps 0, 1, .., n - 1 lie, one after the other
+unfoldable pub overTaps : (ℕ → Tap) → (ℕ → List ℕ) → ℕ → List ℕ
+overTaps tap f zero = []
+overTaps tap f (suc k) = overTaps tap f k ++ atTap f (tap k)
+
+-- The places in the input of the elements of the window of output number j of [N, C, OY, OX], "by ky then kx": the kernel's positions, row-major. "in each
+-- plane": pooling keeps image and channel.
 abbrev pub windowPlaces : Shape → ℕ → List ℕ
-windowPlaces s o = placesAt s (positionOf (s .c) (s .y .out) (s .x .out) o)
+windowPlaces s j = overTaps (onPlane forward s (j % outVolume s)) (λ q. (j / outVolume s * inputVolume s + q) ∷ []) (kernelVolume s)
 
 unfoldable pub windowOf : List Float → Shape → ℕ → Window
-windowOf input s o = bestOf input (windowPlaces s o) Empty
+windowOf input s j = bestOf input (windowPlaces s j) Empty
