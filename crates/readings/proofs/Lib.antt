@@ -1,0 +1,6 @@
+pub mod Taps
+pub mod Shared
+pub mod Convolution
+pub mod Transposed
+pub mod Pooling
+pub mod Calls
