@@ -1,6 +1,7 @@
 -- How long a report is: a line is its key, its numbers and the line end, and a number has at most ten digits.
 use Prim.Native.Nat.{ℕ, _≤_}
 use mathlib.Core.Path.{_≡_, refl}
+use mathlib.Core.Bool.{false≢true}
 use mathlib.Core.List.{List, _++_}
 use native.Mathlib.Omega.{arith}
 use lib.ListN.{length, length-append}
@@ -11,7 +12,7 @@ use Rattle.text.specs.Put.{Put}
 use Rattle.text.proofs.NumberLaws.{decimal-10}
 use Rattle.text.proofs.ListLaws.{numbers-length}
 use Rattle.text.proofs.LineLaws.{line-length}
-use Rattle.sheet.specs.Layers.{inputCount, inputList}
+use Rattle.sheet.specs.Layers.{inputNumbers, inputList}
 use Rattle.sheet.proofs.Fits.{U32}
 use Rattle.sheet.proofs.LayerLaws.{input-range}
 use Rattle.layer.specs.declared.Layer.{Layer}
@@ -46,13 +47,13 @@ output-length axes o h hn hc hy hx =
     let f = inputList axes (o .n) (o .c) (o .y) (o .x) in
     rw (length-append (answerLine 0) (outputLine axes o))
     (omega
-    (arith, h, line-length (text "answer=") (decimal 0), line-length (text "output=") (showNumbers (inputCount axes) f), decimal-10 0 (omega arith), numbers-length (inputCount axes) f (input-range axes (o .n) (o .c) (o .y) (o .x) hn hc hy hx)))
+    (arith, h, line-length (text "answer=") (decimal 0), line-length (text "output=") (showNumbers (inputNumbers axes) f), decimal-10 0 (omega arith), numbers-length (inputNumbers axes) f (input-range axes (o .n) (o .c) (o .y) (o .x) hn hc hy hx)))
 
 -- a layer with an output has at most two axes
 pub output-axes : (l : Layer) (o : Output) → outputOf l ≡ Sizes o → l .axes ≤ 2
 unfolding outputOf
 output-axes l o e = go (judged (l .op) l) (λ s q. axes-most (l .op) l s q) e
   where
-    go : (j : Judged) → ((s : Shape) → j ≡ Accepted s → l .axes ≤ 2) → outputIn l j ≡ Sizes o → l .axes ≤ 2
+    go : (j : Judged) → ((s : Shape) → j ≡ Accepted s → l .axes ≤ 2) → outputIn j ≡ Sizes o → l .axes ≤ 2
     go (Accepted s) h q = h s refl
-    go (Refused n) h q = let z : _≡_ {A = ℕ} 0 1 = cc in absurd (omega arith)
+    go (Refused n) h q = absurd (false≢true cc)

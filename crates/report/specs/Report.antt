@@ -7,7 +7,7 @@ use Rattle.text.specs.Texts.{text}
 use Rattle.text.specs.Numbers.{decimal}
 use Rattle.text.specs.Lists.{showNumbers}
 use Rattle.text.specs.Lines.{showLine}
-use Rattle.sheet.specs.Layers.{inputCount, inputList}
+use Rattle.sheet.specs.Layers.{inputNumbers, inputList}
 use Rattle.sheet.specs.Reader.{readSheet}
 use Rattle.sheet.specs.declared.Read.{Read}
 use Rattle.sheet.specs.declared.Read.the-variants.{Sheet, Refused}
@@ -24,7 +24,7 @@ lineLine line = showLine (text "line=") (decimal line)
 
 -- the output's sizes, N, channels, Y, X; with one axis N, channels, X
 abbrev pub outputLine : ℕ → Output → List ℕ
-outputLine axes o = showLine (text "output=") (showNumbers (inputCount axes) (inputList axes (o .n) (o .c) (o .y) (o .x)))
+outputLine axes o = showLine (text "output=") (showNumbers (inputNumbers axes) (inputList axes (o .n) (o .c) (o .y) (o .x)))
 
 unfoldable pub sizesReport : ℕ → OutputSizes → List ℕ
 sizesReport axes (Sizes o) = answerLine 0 ++ outputLine axes o

@@ -1,7 +1,6 @@
 // What a sheet comes to: the sizes of its layer's output, or the number that refuses it, as values and as the text that the program prints.
 // That text is at most 80 bytes long: two keys and line ends, and at most five numbers of at most ten digits.
 use layer::Layer;
-use layer::Op;
 use shape::Judged;
 use shape::judge;
 use sheet::Read;
@@ -13,7 +12,6 @@ use text::put_list_line;
 ghost use mathlib.Core.Path.{_≡_};
 ghost use mathlib.Core.List.{_++_};
 ghost use Prim.Native.Nat.{_*_, _≤_};
-ghost use Rattle.shape.specs.Counts.{outputChannels};
 ghost use Rattle.text.specs.Numbers.{decimal};
 ghost use Rattle.text.specs.Lines.{showLine};
 ghost use Rattle.text.specs.Put.{Put};
@@ -34,17 +32,6 @@ pub enum OutputSizes {
     NoSizes(u32),
 }
 
-fn channels_of(op: Op, c: usize, g: usize, o: usize) -> usize
-    requires { ⌜ outputChannels op c g o ≤ 16777216 ⌝ }
-    ensures { λ r. ⌜ r ≡ outputChannels op c g o ⌝ }
-{
-    match op {
-        Op::Convolution => g * o,
-        Op::Transposed => g * o,
-        Op::MaxPool => c,
-    }
-}
-
 // Checks 1 to 7 of the layer's own operator, and the sizes of the output.
 pub fn output_sizes(layer: Layer) -> OutputSizes
     ensures { λ r. ⌜ r ≡ outputOf layer ⌝ }
@@ -53,15 +40,12 @@ pub fn output_sizes(layer: Layer) -> OutputSizes
     let judged = judge(op, layer);
     match judged {
         Judged::Refused(number) => OutputSizes::NoSizes(number),
-        Judged::Accepted(s) => {
-            let c = channels_of(op, s.c, s.g, s.o);
-            OutputSizes::Sizes(Output {
-                n: s.n as u32,
-                c: c as u32,
-                y: s.y.out as u32,
-                x: s.x.out as u32,
-            })
-        }
+        Judged::Accepted(s) => OutputSizes::Sizes(Output {
+            n: s.n as u32,
+            c: s.channels as u32,
+            y: s.y.out,
+            x: s.x.out,
+        }),
     }
 }
 
