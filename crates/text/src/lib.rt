@@ -1,12 +1,10 @@
-// Bytes as text: numbers, words, lists of numbers and lines with a key, read from lent bytes and written into a lent buffer.
+// Bytes as text: words, numbers, lists of numbers and lines with a key, read from lent bytes.
 ghost use Prim.Native.Nat.{_≤_};
 ghost use mathlib.Core.Path.{_≡_};
-ghost use mathlib.Core.List.{[], _∷_};
 ghost use Rattle.text.specs.Texts.{place, startsWith, same, part};
-ghost use Rattle.text.specs.Numbers.{number, numberRead, inRange, digits, decimal};
-ghost use Rattle.text.specs.Lists.{spelled, numbers, numbersRead, shown, showNumbers};
-ghost use Rattle.text.specs.Lines.{line, valueAt, showLine};
-ghost use Rattle.text.specs.Put.{Put, placeAfter};
+ghost use Rattle.text.specs.Numbers.{number, numberRead, inRange, digits};
+ghost use Rattle.text.specs.Lists.{oneItem, moreItem, spelled, numbers, numbersRead};
+ghost use Rattle.text.specs.Lines.{line, valueAt};
 
 // What a text spells: a number, or none.
 pub enum Number {
@@ -14,18 +12,19 @@ pub enum Number {
     NoNumber,
 }
 
-// Up to five numbers; those that are not used are 0.
-pub struct Five {
+// Up to six numbers; those that are not used are 0.
+pub struct Items {
     pub a: u32,
     pub b: u32,
     pub c: u32,
     pub d: u32,
     pub e: u32,
+    pub f: u32,
 }
 
 // What a text spells: a list of numbers, or none.
 pub enum Numbers {
-    These(Five),
+    These(Items),
     NoNumbers,
 }
 
@@ -33,6 +32,36 @@ pub enum Numbers {
 pub enum Line {
     Value(usize, usize, usize),
     NoLine,
+}
+
+// ---- values of numbers
+
+// One number.
+pub fn one_item(x: u32) -> Items
+    ensures { λ r. ⌜ r ≡ oneItem x ⌝ }
+{
+    Items {
+        a: x,
+        b: 0,
+        c: 0,
+        d: 0,
+        e: 0,
+        f: 0,
+    }
+}
+
+// A number in front of others.
+pub fn more_item(x: u32, items: Items) -> Items
+    ensures { λ r. ⌜ r ≡ moreItem x items ⌝ }
+{
+    Items {
+        a: x,
+        b: items.a,
+        c: items.b,
+        d: items.c,
+        e: items.d,
+        f: items.e,
+    }
 }
 
 // ---- texts
@@ -145,7 +174,7 @@ pub fn read_number(t: &[u8]) -> Number
 
 // The list of so many numbers that a whole text spells: the first, then the others.
 fn spelled_numbers(t: &[u8], count: usize) -> Numbers
-    requires { ⌜ count ≤ 5 ⌝ }
+    requires { ⌜ count ≤ 6 ⌝ }
     ensures { λ r. ⌜ numbersRead r ≡ spelled count (now (t .entry)) ⌝ }
 {
     if count == 0 {
@@ -155,12 +184,13 @@ fn spelled_numbers(t: &[u8], count: usize) -> Numbers
         let Number::Value(x) = read_number(t) else {
             return Numbers::NoNumbers;
         };
-        return Numbers::These(Five {
+        return Numbers::These(Items {
             a: x,
             b: 0,
             c: 0,
             d: 0,
             e: 0,
+            f: 0,
         });
     }
     let comma = find(t, 44);
@@ -170,23 +200,24 @@ fn spelled_numbers(t: &[u8], count: usize) -> Numbers
     let Number::Value(x) = read_number(&t[..comma]) else {
         return Numbers::NoNumbers;
     };
-    let Numbers::These(f) = spelled_numbers(&t[comma + 1..], count - 1) else {
+    let Numbers::These(items) = spelled_numbers(&t[comma + 1..], count - 1) else {
         return Numbers::NoNumbers;
     };
-    Numbers::These(Five {
+    Numbers::These(Items {
         a: x,
-        b: f.a,
-        c: f.b,
-        d: f.c,
-        e: f.d,
+        b: items.a,
+        c: items.b,
+        d: items.c,
+        e: items.d,
+        f: items.e,
     })
 }
 
-// The list of so many numbers, up to five, that a whole text spells.
+// The list of so many numbers, up to six, that a whole text spells.
 pub fn read_numbers(t: &[u8], count: usize) -> Numbers
     ensures { λ r. ⌜ numbersRead r ≡ numbers count (now (t .entry)) ⌝ }
 {
-    if 5 < count {
+    if 6 < count {
         return Numbers::NoNumbers;
     }
     spelled_numbers(t, count)
@@ -217,104 +248,4 @@ pub fn read_line(s: &[u8], at: usize, key: &[u8]) -> Line
         return value_at(s, at + key.len());
     }
     Line::NoLine
-}
-
-// ---- writing: each function puts its bytes from a place on, as far as the buffer goes, and tells the next place
-
-// The place after the next byte.
-fn next_place(at: usize) -> usize
-    ensures { λ r. ⌜ r ≡ placeAfter at 1 ⌝ }
-{
-    if at < 18446744073709551615 {
-        return at + 1;
-    }
-    at
-}
-
-pub fn put_byte(buf: &mut [u8], at: usize, b: u8) -> usize
-    ensures { λ r. ⌜ Put (now (buf .entry)) at (b ∷ []) r (now (buf .exit)) ⌝ }
-{
-    if at < buf.len() {
-        buf[at] = b;
-        return next_place(at);
-    }
-    next_place(at)
-}
-
-pub fn put_text(buf: &mut [u8], at: usize, src: &[u8]) -> usize
-    ensures { λ r. ⌜ Put (now (buf .entry)) at (now (src .entry)) r (now (buf .exit)) ⌝ }
-{
-    let mut next = at;
-    let mut i = 0;
-    while i < src.len() {
-        next = put_byte(buf, next, src[i]);
-        i += 1;
-    }
-    next
-}
-
-// A number in decimal.
-pub fn put_number(buf: &mut [u8], at: usize, n: u32) -> usize
-    ensures { λ r. ⌜ Put (now (buf .entry)) at (decimal n) r (now (buf .exit)) ⌝ }
-{
-    if n < 10 {
-        return put_byte(buf, at, (48 + n) as u8);
-    }
-    let next = put_number(buf, at, n / 10);
-    put_byte(buf, next, (48 + n % 10) as u8)
-}
-
-// So many of the numbers, with a comma between two: the first, then the others.
-fn put_shown(buf: &mut [u8], at: usize, count: usize, f: Five) -> usize
-    requires { ⌜ count ≤ 5 ⌝ }
-    ensures { λ r. ⌜ Put (now (buf .entry)) at (shown count f) r (now (buf .exit)) ⌝ }
-{
-    if count == 0 {
-        return at;
-    }
-    let next = put_number(buf, at, f.a);
-    if count == 1 {
-        return next;
-    }
-    let comma = put_byte(buf, next, 44);
-    put_shown(
-        buf,
-        comma,
-        count - 1,
-        Five {
-            a: f.b,
-            b: f.c,
-            c: f.d,
-            d: f.e,
-            e: 0,
-        },
-    )
-}
-
-// So many of the numbers, up to five, with a comma between two.
-pub fn put_numbers(buf: &mut [u8], at: usize, count: usize, f: Five) -> usize
-    ensures { λ r. ⌜ Put (now (buf .entry)) at (showNumbers count f) r (now (buf .exit)) ⌝ }
-{
-    if 5 < count {
-        return put_shown(buf, at, 5, f);
-    }
-    put_shown(buf, at, count, f)
-}
-
-// A line with a list of numbers.
-pub fn put_list_line(buf: &mut [u8], at: usize, key: &[u8], count: usize, f: Five) -> usize
-    ensures { λ r. ⌜ Put (now (buf .entry)) at (showLine (now (key .entry)) (showNumbers count f)) r (now (buf .exit)) ⌝ }
-{
-    let value = put_text(buf, at, key);
-    let end = put_numbers(buf, value, count, f);
-    put_byte(buf, end, 10)
-}
-
-// A line with a word.
-pub fn put_word_line(buf: &mut [u8], at: usize, key: &[u8], word: &[u8]) -> usize
-    ensures { λ r. ⌜ Put (now (buf .entry)) at (showLine (now (key .entry)) (now (word .entry))) r (now (buf .exit)) ⌝ }
-{
-    let value = put_text(buf, at, key);
-    let end = put_text(buf, value, word);
-    put_byte(buf, end, 10)
 }

@@ -1,11 +1,12 @@
 -- `spelled_numbers` meets its contract, by recursion on the count: the number up to the first comma, then the others.
 use borrow.Author.Needs.{needs}
-use mathlib.Core.Path.{sym}
+use mathlib.Core.Path.{sym, _∙_}
+use borrow.Author.Tests.{lt-ltb, le-ltb}
 use lib.Seq.{length-take-le}
 use Rattle.text.specs.Numbers.{numberRead}
-use Rattle.text.specs.Lists.{numbersRead}
+use Rattle.text.specs.Lists.{lastNumber, oneMore, spelled, numbersRead}
 use Rattle.text.proofs.TextLaws.{told}
-use Rattle.text.proofs.ListLaws.{numbers-0, one-none, one-some, more-uncut, more-none, more-no-rest, more-all}
+use Rattle.text.proofs.ListLaws.{numbers-more}
 use Prim.Native.Nat.{ℕ, _<_}
 use borrow.Fn.Kinds.{In}
 use borrow.Fn.PlainCycle.{Measures, is, falls, and}
@@ -33,6 +34,7 @@ spelled-numbers-below t =
     spelled-numbers.Pre
 
 pub +spelled-numbers-spec : {M : Type 1} → statement M
+unfolding spelled lastNumber oneMore
 +spelled-numbers-spec = close μ-spelled-numbers λ t. spelled-numbers-lts.spec (
   read-number-reads.Asked,
   read-number-reads.Learnt,
@@ -43,16 +45,14 @@ pub +spelled-numbers-spec : {M : Type 1} → statement M
 )
     (spelled-numbers-at t)
     spelled-numbers.Post
-    (λ c. sym (numbers-0 (c .before .before .args .t .now) _ (c .if1 .taken)))
+    (λ c. rw (c .if1 .taken))
     (λ c κs. search needs)
     (λ c. search needs)
     (λ c. search needs)
-    (λ c. sym (one-none _ _ (c .before .before .before .if2 .taken) (told numberRead (c .before .before .read-number .ensures) (c .enum-told .given .1))))
-    (λ c.
-    let a = c .before .before .before .before in
-    sym (one-some _ _ _ (a .if2 .taken) (told numberRead (c .before .before .before .read-number .ensures) (c .before .x .given .1))))
+    (λ c. rw (c .before .before .before .if2 .taken, told numberRead (c .before .before .read-number .ensures) (c .enum-told .given .1)))
+    (λ c. rw (c .before .before .before .before .if2 .taken, told numberRead (c .before .before .before .read-number .ensures) (c .before .x .given .1)))
     (λ c κs. search needs)
-    (λ c. sym (more-uncut _ _ _ (c .before .before .before .if1 .left) (c .before .before .if2 .left) (c .before .find .ensures) (c .if3 .taken)))
+    (λ c. sym (numbers-more _ _ _ (c .before .before .before .if1 .left) (c .before .before .if2 .left) (c .before .find .ensures) ∙ rw (le-ltb _ _ (c .if3 .taken))))
     (λ c.
     let a = c .before .before .before .before .before .before in
     sym (length-take-le (c .before .before .find .result) (a .args .t .now) (search needs)))
@@ -61,7 +61,7 @@ pub +spelled-numbers-spec : {M : Type 1} → statement M
     (λ c. search needs)
     (λ c.
     let a = c .before .before .before .before in
-    sym (more-none _ _ _ (a .before .before .before .if1 .left) (a .before .before .if2 .left) (a .before .find .ensures) (a .if3 .left) (told numberRead (c .before .before .read-number2 .ensures) (c .enum-told2 .given .1))))
+    sym (numbers-more _ _ _ (a .before .before .before .if1 .left) (a .before .before .if2 .left) (a .before .find .ensures) ∙ rw (lt-ltb _ _ (a .if3 .left), told numberRead (c .before .before .read-number2 .ensures) (c .enum-told2 .given .1))))
     (λ c. search needs)
     (λ c. search needs)
     (λ c. search needs)
@@ -73,8 +73,8 @@ pub +spelled-numbers-spec : {M : Type 1} → statement M
     (λ c.
     let a = c .before .before .before .before .before in
     let b = a .before .before .before .before in
-    sym (more-no-rest _ _ _ (b .before .before .before .if1 .left) (b .before .before .if2 .left) (b .before .find .ensures) (b .if3 .left) _ (told numberRead (a .before .before .read-number2 .ensures) (a .x2 .given .1)) (told numbersRead (c .before .before .spelled-numbers .ensures) (c .enum-told3 .given .1))))
+    sym (numbers-more _ _ _ (b .before .before .before .if1 .left) (b .before .before .if2 .left) (b .before .find .ensures) ∙ rw (lt-ltb _ _ (b .if3 .left), told numberRead (a .before .before .read-number2 .ensures) (a .x2 .given .1), told numbersRead (c .before .before .spelled-numbers .ensures) (c .enum-told3 .given .1))))
     (λ c.
     let a = c .before .before .before .before .before .before in
     let b = a .before .before .before .before in
-    sym (more-all _ _ _ (b .before .before .before .if1 .left) (b .before .before .if2 .left) (b .before .find .ensures) (b .if3 .left) _ _ (told numberRead (a .before .before .read-number2 .ensures) (a .x2 .given .1)) (told numbersRead (c .before .before .before .spelled-numbers .ensures) (c .before .f .given .1))))
+    sym (numbers-more _ _ _ (b .before .before .before .if1 .left) (b .before .before .if2 .left) (b .before .find .ensures) ∙ rw (lt-ltb _ _ (b .if3 .left), told numberRead (a .before .before .read-number2 .ensures) (a .x2 .given .1), told numbersRead (c .before .before .before .spelled-numbers .ensures) (c .before .items .given .1))))

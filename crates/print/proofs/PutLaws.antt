@@ -1,18 +1,18 @@
 -- Laws of writing: one write after another, and the steps of the code.
 use Prim.Native.Nat.{ℕ, zero, suc, _+_, _-_, _≤_, _<_, min}
 use mathlib.Core.Path.{_≡_, refl, sym, ap, _∙_}
-use mathlib.Core.Logic.{_⊎_, ⊎-elim}
+use mathlib.Core.Logic.{⊎-elim}
 use mathlib.Core.List.{List, [], _∷_, _++_}
 use native.Mathlib.Numerals.{add-one, sub-one}
 use native.Mathlib.Nat.{add-zero}
 use native.Mathlib.Omega.{arith}
 use lib.ListN.{length, length-append, set, take, getD}
 use lib.Seq.{sets, length-sets, set-out, take-suc, take-all}
 use Rattle.text.specs.Numbers.{decimal}
 use Rattle.text.specs.Lists.{shown, showNumbers, laterItems}
-use Rattle.text.specs.Put.{Put, placeAfter}
-use Rattle.text.specs.declared.Five.{Five}
+use Rattle.print.specs.Put.{Put, placeAfter}
+use Rattle.text.specs.declared.Items.{Items}
 use Rattle.text.proofs.NumberLaws.{lt-or-le}
 
 sets-append : (l : List ℕ) (i : ℕ) (a b : List ℕ) → sets l i (a ++ b) ≡ sets (sets l i a) (i + length a) b
 sets-append l i [] b = rw add-zero
@@ -62,29 +62,13 @@ text-step l m e s at k i r p h q = rw (add-one, take-suc s i 0 h) (put-then p q)
 pub text-end : (l m s : List ℕ) (at k i : ℕ) → Put l at (take i s) k m → length s ≤ i → Put l at s k m
 text-end l m s at k i p h = rw (take-all i s h) at p
 
-pub show-none : (n : ℕ) (f : Five) → n ≡ 0 → shown n f ≡ []
+pub show-more : (n : ℕ) (items : Items) → (n ≡ 0 → ⊥) → (n ≡ 1 → ⊥)
+    → shown n items ≡ decimal (items .a) ++ (44 ∷ shown (n - 1) (laterItems items))
 unfolding shown
-show-none n f e = rw e
+show-more zero items p q = absurd (p refl)
+show-more (suc zero) items p q = absurd (q refl)
+show-more (suc (suc k)) items p q = rw (sub-one (suc (suc k)))
 
-pub show-one : (n : ℕ) (f : Five) → n ≡ 1 → shown n f ≡ decimal (f .a)
-unfolding shown
-show-one n f e = rw e
-
-pub show-more : (n : ℕ) (f : Five) → (n ≡ 0 → ⊥) → (n ≡ 1 → ⊥)
-    → shown n f ≡ decimal (f .a) ++ (44 ∷ shown (n - 1) (laterItems f))
-unfolding shown
-show-more zero f p q = absurd (p refl)
-show-more (suc zero) f p q = absurd (q refl)
-show-more (suc (suc k)) f p q = rw (sub-one (suc (suc k)))
-
--- ---- up to five numbers
-pub show-up-to-5 : (n : ℕ) (f : Five) → n ≤ 5 → showNumbers n f ≡ shown n f
-unfolding showNumbers
-show-up-to-5 n f h = let e : min n 5 ≡ n = omega arith in rw e
-
-pub show-all-5 : (n : ℕ) (f : Five) → 5 < n → showNumbers n f ≡ shown 5 f
-unfolding showNumbers
-show-all-5 n f h = let e : min n 5 ≡ 5 = omega arith in rw e
-
-pub show-1 : (f : Five) → showNumbers 1 f ≡ decimal (f .a)
-show-1 f = show-up-to-5 1 f (omega arith) ∙ show-one 1 f refl
+pub show-1 : (items : Items) → showNumbers 1 items ≡ decimal (items .a)
+unfolding shown showNumbers
+show-1 items = refl
