@@ -1,0 +1,11 @@
+-- `auto_pad_of` meets its contract, place by place.
+use borrow.Author.Tests.{eq-eqb, ne-eqb}
+use Rattle.values.proofs.auto_pad_of.Statement.{statement}
+use Rattle.values.proofs.auto_pad_of.Tie as tie
+
+pub auto-pad-of-spec : {M : Type 1} → statement M
+auto-pad-of-spec = tie.close (tie.spec
+    (λ c. rw (eq-eqb _ 0 (c .if1 .taken)))
+    (λ c. rw (ne-eqb _ 0 (c .before .before .if1 .left), eq-eqb _ 1 (c .if2 .taken)))
+    (λ c. rw (ne-eqb _ 0 (c .before .before .before .before .if1 .left), ne-eqb _ 1 (c .before .before .if2 .left), eq-eqb _ 2 (c .if3 .taken)))
+    (λ c. rw (ne-eqb _ 0 (c .before .before .before .before .if1 .left), ne-eqb _ 1 (c .before .before .if2 .left), ne-eqb _ 2 (c .if3 .left))))

@@ -1,0 +1,97 @@
+-- The values of a sheet's lines, as they are read and as they are shown. A value is up to six numbers: those of a list; of a word its place in its table; of an
+-- axis its digit, and 1 after a minus.
+use Prim.Native.Nat.{ℕ, _-_}
+use mathlib.Core.List.{List, [], _∷_}
+use mathlib.Core.Bool.{Bool, cond, _&&_}
+use mathlib.Core.Option.{Option, some, none}
+use lib.Dec.{leb, eqb}
+use Rattle.text.specs.Texts.{text}
+use Rattle.text.specs.Numbers.{number, decimal}
+use Rattle.text.specs.Lists.{numbers, showNumbers, lastNumber}
+use Rattle.text.specs.declared.Items.{Items}
+use Rattle.values.specs.Words.{wordAt, wordPlace}
+use Rattle.values.specs.declared.Field.{Field}
+use Rattle.values.specs.declared.Field.the-variants.{OpWord, AxesNumber, NumberList, AutoPadWord, RoundingWord, AxisDigit}
+
+-- "op is convolution, transposed or maxpool"
+abbrev pub opWords : List ℕ
+opWords = text "convolution,transposed,maxpool"
+
+-- "auto_pad explicit, same_upper, same_lower or valid"
+abbrev pub autoPadWords : List ℕ
+autoPadWords = text "explicit,same_upper,same_lower,valid"
+
+-- "rounding floor or ceil"
+abbrev pub roundingWords : List ℕ
+roundingWords = text "floor,ceil"
+
+-- the table of a field's words, and how many it has; a field of numbers has none
+abbrev pub words : Field → List ℕ
+words OpWord = opWords
+words AxesNumber = []
+words (NumberList count) = []
+words AutoPadWord = autoPadWords
+words RoundingWord = roundingWords
+words AxisDigit = []
+
+abbrev pub wordCount : Field → ℕ
+wordCount OpWord = 3
+wordCount AxesNumber = 0
+wordCount (NumberList count) = 0
+wordCount AutoPadWord = 4
+wordCount RoundingWord = 2
+wordCount AxisDigit = 0
+
+-- "axes other than 1 and 2 included": the number of axes is 1 or 2
+unfoldable pub oneOrTwo : Option ℕ → Option ℕ
+oneOrTwo none = none
+oneOrTwo (some n) = cond (eqb n 1) (some n) (cond (eqb n 2) (some n) none)
+
+-- "axis is -9..9 in one digit, never -0": a digit, 48 to 57, or a minus, 45, and a digit from 49 on
+abbrev pub signed : ℕ → ℕ → Items
+signed digit minus = record { a = digit; b = minus; c = 0; d = 0; e = 0; f = 0 }
+
+abbrev pub digitFrom : ℕ → ℕ → ℕ → Option Items
+digitFrom low minus b = cond (leb low b) (cond (leb b 57) (some (signed (b - 48) minus)) none) none
+
+unfoldable pub axisNumber : List ℕ → Option Items
+axisNumber [] = none
+axisNumber (b ∷ []) = digitFrom 48 0 b
+axisNumber (a ∷ b ∷ []) = cond (eqb a 45) (digitFrom 49 1 b) none
+axisNumber (a ∷ b ∷ c ∷ t) = none
+
+abbrev pub showAxis : Items → List ℕ
+showAxis items = cond (eqb (items .b) 0) (decimal (items .a)) (45 ∷ decimal (items .a))
+
+-- ---- every kind of value
+
+-- what a text spells
+unfoldable pub fieldValue : Field → List ℕ → Option Items
+fieldValue OpWord t = lastNumber (wordPlace (wordCount OpWord) (words OpWord) t)
+fieldValue AxesNumber t = lastNumber (oneOrTwo (number t))
+fieldValue (NumberList count) t = numbers count t
+fieldValue AutoPadWord t = lastNumber (wordPlace (wordCount AutoPadWord) (words AutoPadWord) t)
+fieldValue RoundingWord t = lastNumber (wordPlace (wordCount RoundingWord) (words RoundingWord) t)
+fieldValue AxisDigit t = axisNumber t
+
+-- the text of a value
+unfoldable pub showField : Field → Items → List ℕ
+showField OpWord items = wordAt (items .a) (words OpWord)
+showField AxesNumber items = decimal (items .a)
+showField (NumberList count) items = showNumbers count items
+showField AutoPadWord items = wordAt (items .a) (words AutoPadWord)
+showField RoundingWord items = wordAt (items .a) (words RoundingWord)
+showField AxisDigit items = showAxis items
+
+-- "21 a number, or a count of numbers, that breaks the rules"; "22 unknown word"
+abbrev pub unread : Field → ℕ
+unread OpWord = 22
+unread AxesNumber = 21
+unread (NumberList count) = 21
+unread AutoPadWord = 22
+unread RoundingWord = 22
+unread AxisDigit = 21
+
+-- the default of a line that only some operators use: "output padding 0", "rounding floor", which is the first word, "axis 0"
+abbrev pub isDefaultValue : Items → Bool
+isDefaultValue items = eqb (items .a) 0 && eqb (items .b) 0
