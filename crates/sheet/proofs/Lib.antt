@@ -1,7 +1,1 @@
-pub mod Fits
-pub mod ReaderLaws
-pub mod WriterLaws
-pub mod ValueLaws
-pub mod LayerLaws
-pub mod RoundTrip
-pub mod Refusals
+pub mod WayBack

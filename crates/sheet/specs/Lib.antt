@@ -1,4 +1,1 @@
-pub mod Values
-pub mod Layers
-pub mod Reader
-pub mod Writer
+pub mod Sheet
