@@ -4,12 +4,10 @@ use mathlib.Core.Path.{_≡_, sym, ap, _∙_}
 use mathlib.Core.List.{List}
 use lib.ListN.{length, take}
 use Rattle.layer.specs.declared.Layer.{Layer}
-use Rattle.sheet.specs.Reader.{readSheet}
-use Rattle.sheet.specs.Writer.{writeSheet, bufferAfter}
-use Rattle.sheet.specs.declared.Read.the-variants.{Sheet, Refused}
-use Rattle.sheet.specs.declared.Written.{Written}
-use Rattle.sheet.proofs.RoundTrip.{rewritten}
-use Rattle.sheet.proofs.Refusals.{refused-numbered}
+use Rattle.lines.specs.declared.Read.the-variants.{Sheet, Refused}
+use Rattle.writer.specs.declared.Written.{Written}
+use Rattle.sheet.specs.Sheet.{readSheet, writeSheet, bufferAfter}
+use Rattle.sheet.proofs.WayBack.{rewritten, refused-numbered}
 use Rattle.kozamyure.specs.declared.SheetWritten.{SheetWritten}
 use Rattle.kozamyure.specs.Boundary.{writtenBack, rewriteAnswer, rewriteBuffer}
 

@@ -17,10 +17,10 @@ use Rattle.tensor.specs.declared.PeakAnswer.{PeakAnswer}
 use Rattle.sums.specs.Taps.{Place}
 use Rattle.call.specs.Call.{answerOf, contentsOf}
 use Rattle.pooling.specs.Call.{maxPoolAnswer, maxPoolValues, maxPoolIndices}
-use Rattle.sheet.specs.Writer.{writeSheet, bufferAfter}
-use Rattle.sheet.specs.declared.Read.{Read}
-use Rattle.sheet.specs.declared.Read.the-variants.{Sheet, Refused}
-use Rattle.sheet.specs.declared.Written.{Written}
+use Rattle.sheet.specs.Sheet.{writeSheet, bufferAfter}
+use Rattle.lines.specs.declared.Read.{Read}
+use Rattle.lines.specs.declared.Read.the-variants.{Sheet, Refused}
+use Rattle.writer.specs.declared.Written.{Written}
 use Rattle.report.specs.declared.OutputSizes.{OutputSizes}
 use Rattle.report.specs.declared.OutputSizes.the-variants.{Sizes, NoSizes}
 use Rattle.report.specs.Output.{outputOf}

@@ -12,13 +12,12 @@ use layer::Layer;
 use layer::Rounding;
 use libc::STDIN_FILENO;
 use libc::STDOUT_FILENO;
+use lines::Read;
 use pooling::max_pool;
-use sheet::Read;
-use sheet::Written;
 use sheet::read_sheet;
 use sheet::write_sheet;
 use tensor::pick_plane;
-use text::Five;
+use text::Items;
 use text::Number;
 use text::Numbers;
 use text::is_text;
@@ -27,6 +26,7 @@ use text::read_number;
 use text::read_numbers;
 use text::starts;
 use transposed::transposed;
+use writer::Written;
 ghost use Prim.Native.Nat.{_≤_};
 
 // What stands in outputs and in the buffer before a call; no case expects one of them.
@@ -351,7 +351,7 @@ fn print_plane(plane: &[f32]) {
     }
 }
 
-fn pick(sizes: Five, length: usize, image: u32, channel: u32)
+fn pick(sizes: Items, length: usize, image: u32, channel: u32)
     requires { ⌜ length ≤ 64 ⌝ }
 {
     let mut tensor = [0.0f32; 64];

@@ -8,13 +8,13 @@ use lib.ListN.{length, length-append}
 use Rattle.text.specs.Texts.{text}
 use Rattle.text.specs.Numbers.{decimal}
 use Rattle.text.specs.Lists.{showNumbers}
-use Rattle.text.specs.Put.{Put}
 use Rattle.text.proofs.NumberLaws.{decimal-10}
 use Rattle.text.proofs.ListLaws.{numbers-length}
 use Rattle.text.proofs.LineLaws.{line-length}
-use Rattle.sheet.specs.Layers.{inputNumbers, inputList}
-use Rattle.sheet.proofs.Fits.{U32}
-use Rattle.sheet.proofs.LayerLaws.{input-range}
+use Rattle.print.specs.Put.{Put}
+use Rattle.fields.specs.Layers.{inputNumbers, inputList}
+use Rattle.fields.proofs.Fits.{U32}
+use Rattle.fields.proofs.LayerLaws.{input-range}
 use Rattle.layer.specs.declared.Layer.{Layer}
 use Rattle.shape.specs.declared.Shape.{Shape}
 use Rattle.shape.specs.declared.Judged.{Judged}

@@ -7,10 +7,10 @@ use Rattle.text.specs.Texts.{text}
 use Rattle.text.specs.Numbers.{decimal}
 use Rattle.text.specs.Lists.{showNumbers}
 use Rattle.text.specs.Lines.{showLine}
-use Rattle.sheet.specs.Layers.{inputNumbers, inputList}
-use Rattle.sheet.specs.Reader.{readSheet}
-use Rattle.sheet.specs.declared.Read.{Read}
-use Rattle.sheet.specs.declared.Read.the-variants.{Sheet, Refused}
+use Rattle.lines.specs.declared.Read.{Read}
+use Rattle.lines.specs.declared.Read.the-variants.{Sheet, Refused}
+use Rattle.fields.specs.Layers.{inputNumbers, inputList}
+use Rattle.sheet.specs.Sheet.{readSheet}
 use Rattle.report.specs.declared.Output.{Output}
 use Rattle.report.specs.declared.OutputSizes.{OutputSizes}
 use Rattle.report.specs.declared.OutputSizes.the-variants.{Sizes, NoSizes}

@@ -1,20 +1,21 @@
 // What a sheet comes to: the sizes of its layer's output, or the number that refuses it, as values and as the text that the program prints.
 // That text is at most 80 bytes long: two keys and line ends, and at most five numbers of at most ten digits.
+use fields::input_list;
 use layer::Layer;
+use lines::Read;
+use lines::put_line;
 use shape::Judged;
 use shape::judge;
-use sheet::Read;
-use sheet::input_list;
 use sheet::read_sheet;
-use text::Five;
+use text::one_item;
 use text::part_of;
-use text::put_list_line;
+use values::Field;
 ghost use mathlib.Core.Path.{_≡_};
 ghost use mathlib.Core.List.{_++_};
 ghost use Prim.Native.Nat.{_*_, _≤_};
 ghost use Rattle.text.specs.Numbers.{decimal};
 ghost use Rattle.text.specs.Lines.{showLine};
-ghost use Rattle.text.specs.Put.{Put};
+ghost use Rattle.print.specs.Put.{Put};
 ghost use Rattle.report.specs.Output.{outputOf};
 ghost use Rattle.report.specs.Report.{answerLine, lineLine, outputLine, sizesReport, reportOf};
 
@@ -55,14 +56,7 @@ pub fn output_sizes(layer: Layer) -> OutputSizes
 fn put_number_line(buf: &mut [u8], at: usize, key: &[u8], n: u32) -> usize
     ensures { λ r. ⌜ Put (now (buf .entry)) at (showLine (now (key .entry)) (decimal n)) r (now (buf .exit)) ⌝ }
 {
-    let one = Five {
-        a: n,
-        b: 0,
-        c: 0,
-        d: 0,
-        e: 0,
-    };
-    put_list_line(buf, at, key, 1, one)
+    put_line(buf, at, key, Field::NumberList(1), one_item(n))
 }
 
 // The lines of an accepted layer.
@@ -73,7 +67,8 @@ fn put_output(buf: &mut [u8], axes: u32, o: Output) -> usize
 {
     let sizes = input_list(axes, o.n, o.c, o.y, o.x);
     let next = put_number_line(buf, 0, b"answer=", 0);
-    put_list_line(buf, next, b"output=", axes as usize + 2, sizes)
+    let list = Field::NumberList(axes as usize + 2);
+    put_line(buf, next, b"output=", list, sizes)
 }
 
 // The lines of a layer that is read.
