@@ -107,18 +107,6 @@ numbers-back (suc k) t items m e = go (ltb (place 44 t) (length t)) refl e
           rw (h .4) (more-range (h .0) (h .1) (d .1) (i .1)),
         )
 
--- the numbers after the first k are not shown
-kept-shown : (k : ℕ) (items : Items) → k < 6 → shown (suc k) (keep (suc k) items) ≡ shown (suc k) items
-unfolding shown
-kept-shown zero items h = refl
-kept-shown (suc k) items h =
-    ap (λ (t : List ℕ). decimal (items .a) ++ (44 ∷ t))
-    (sym (show-more k (items .a) (keep (suc k) (laterItems items)) (omega arith)) ∙ kept-shown k (laterItems items) (omega arith))
-
-pub numbers-kept : (k : ℕ) (items : Items) → k < 6 → showNumbers (suc k) (keep (suc k) items) ≡ showNumbers (suc k) items
-unfolding showNumbers
-numbers-kept k items h = let least : min (suc k) 6 ≡ suc k = omega arith in rw least (kept-shown k items h)
-
 -- no end of line stands in a list
 pub numbers-absent : (k : ℕ) (items : Items) → place 10 (shown (suc k) items) ≡ length (shown (suc k) items)
 unfolding shown place

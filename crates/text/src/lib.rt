@@ -184,14 +184,7 @@ fn spelled_numbers(t: &[u8], count: usize) -> Numbers
         let Number::Value(x) = read_number(t) else {
             return Numbers::NoNumbers;
         };
-        return Numbers::These(Items {
-            a: x,
-            b: 0,
-            c: 0,
-            d: 0,
-            e: 0,
-            f: 0,
-        });
+        return Numbers::These(one_item(x));
     }
     let comma = find(t, 44);
     if t.len() <= comma {
@@ -203,14 +196,7 @@ fn spelled_numbers(t: &[u8], count: usize) -> Numbers
     let Numbers::These(items) = spelled_numbers(&t[comma + 1..], count - 1) else {
         return Numbers::NoNumbers;
     };
-    Numbers::These(Items {
-        a: x,
-        b: items.a,
-        c: items.b,
-        d: items.c,
-        e: items.d,
-        f: items.e,
-    })
+    Numbers::These(more_item(x, items))
 }
 
 // The list of so many numbers, up to six, that a whole text spells.

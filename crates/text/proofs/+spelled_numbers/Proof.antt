@@ -14,6 +14,8 @@ use Rattle.text.proofs.spelled_numbers.Reads as spelled-numbers
 use Rattle.text.proofs.spelled_numbers.Kinds as spelled-numbers-kinds
 use Rattle.text.proofs.+spelled_numbers.Lts-spelled_numbers as spelled-numbers-lts
 use Rattle.text.proofs.find.Reads as find-reads
+use Rattle.text.proofs.more_item.Reads as more-item-reads
+use Rattle.text.proofs.one_item.Reads as one-item-reads
 use Rattle.text.proofs.read_number.Reads as read-number-reads
 use Rattle.text.proofs.+spelled_numbers.{statement}
 use Rattle.text.proofs.+spelled_numbers.Tie.{close}
@@ -38,10 +40,14 @@ unfolding spelled lastNumber oneMore
 +spelled-numbers-spec = close μ-spelled-numbers λ t. spelled-numbers-lts.spec (
   read-number-reads.Asked,
   read-number-reads.Learnt,
+  one-item-reads.Asked,
+  one-item-reads.Learnt,
   find-reads.Asked,
   find-reads.Learnt,
   spelled-numbers-below t,
   spelled-numbers.Post,
+  more-item-reads.Asked,
+  more-item-reads.Learnt,
 )
     (spelled-numbers-at t)
     spelled-numbers.Post
@@ -50,7 +56,8 @@ unfolding spelled lastNumber oneMore
     (λ c. search needs)
     (λ c. search needs)
     (λ c. rw (c .before .before .before .if2 .taken, told numberRead (c .before .before .read-number .ensures) (c .enum-told .given .1)))
-    (λ c. rw (c .before .before .before .before .if2 .taken, told numberRead (c .before .before .before .read-number .ensures) (c .before .x .given .1)))
+    (λ c κs. search needs)
+    (λ c. rw (c .one-item .ensures, c .before .before .before .before .before .if2 .taken, told numberRead (c .before .before .before .before .read-number .ensures) (c .before .before .x .given .1)))
     (λ c κs. search needs)
     (λ c. sym (numbers-more _ _ _ (c .before .before .before .if1 .left) (c .before .before .if2 .left) (c .before .find .ensures) ∙ rw (le-ltb _ _ (c .if3 .taken))))
     (λ c.
@@ -74,7 +81,9 @@ unfolding spelled lastNumber oneMore
     let a = c .before .before .before .before .before in
     let b = a .before .before .before .before in
     sym (numbers-more _ _ _ (b .before .before .before .if1 .left) (b .before .before .if2 .left) (b .before .find .ensures) ∙ rw (lt-ltb _ _ (b .if3 .left), told numberRead (a .before .before .read-number2 .ensures) (a .x2 .given .1), told numbersRead (c .before .before .spelled-numbers .ensures) (c .enum-told3 .given .1))))
+    (λ c κs. search needs)
     (λ c.
-    let a = c .before .before .before .before .before .before in
+    let a = c .before .before .before .before .before .before .before in
     let b = a .before .before .before .before in
-    sym (numbers-more _ _ _ (b .before .before .before .if1 .left) (b .before .before .if2 .left) (b .before .find .ensures) ∙ rw (lt-ltb _ _ (b .if3 .left), told numberRead (a .before .before .read-number2 .ensures) (a .x2 .given .1), told numbersRead (c .before .before .before .spelled-numbers .ensures) (c .before .items .given .1))))
+    rw (c .more-item .ensures)
+    (sym (numbers-more _ _ _ (b .before .before .before .if1 .left) (b .before .before .if2 .left) (b .before .find .ensures) ∙ rw (lt-ltb _ _ (b .if3 .left), told numberRead (a .before .before .read-number2 .ensures) (a .x2 .given .1), told numbersRead (c .before .before .before .before .spelled-numbers .ensures) (c .before .before .items .given .1)))))
