@@ -13,7 +13,7 @@ use Rattle.shape.specs.Windows.{windowEmpty, someEmpty}
 use Rattle.shape.specs.Checks.{dimensionsOk, axisAtDefault, axesOk, poolingOk, notPoolingOk, unusedOk, attributesOk, countsOk, fitsOk, outputOk, windowsOk}
 use Rattle.shape.specs.Judge.{judged}
 use Rattle.tensor.specs.Table.{tabulate}
-use Rattle.tensor.specs.Element.{elementOk, firstBadFrom}
+use Rattle.tensor.specs.Element.{elementOk, firstBad, badCount, elementCheck}
 use Rattle.tensor.specs.Window.{All, bestOf}
 use Rattle.sums.specs.Taps.{tapAt, addTap, sumFrom, outputOf}
 use Rattle.sums.specs.Whole.{isWhole, value, product, total, magnitudes}
@@ -29,7 +29,7 @@ _and_ : {A B : Type 0} → A → B → A × B
 a and b = (a, b)
 
 pub bench : All Holds benchCases
-unfolding ceilDiv dilatedKernel validOut sameOut sameTotal transposedOut anyBelow axisDimensionsOk axisAttributesOk forward positionBy reachOf backward both isAt modulus inputRows kernelRows outRows onRows onPlane windowEmpty someEmpty dimensionsOk axisAtDefault axesOk poolingOk notPoolingOk unusedOk attributesOk countsOk fitsOk outputOk windowsOk judged tabulate elementOk firstBadFrom bestOf tapAt addTap sumFrom outputOf isWhole value product total magnitudes elementsVerdict verdict answerIn leaves placed placeOf reached transposedPlaceOf overTaps windowOf add mul lt ofInt
+unfolding ceilDiv dilatedKernel validOut sameOut sameTotal transposedOut anyBelow axisDimensionsOk axisAttributesOk forward positionBy reachOf backward both isAt modulus inputRows kernelRows outRows onRows onPlane windowEmpty someEmpty dimensionsOk axisAtDefault axesOk poolingOk notPoolingOk unusedOk attributesOk countsOk fitsOk outputOk windowsOk judged tabulate elementOk firstBad badCount elementCheck bestOf tapAt addTap sumFrom outputOf isWhole value product total magnitudes elementsVerdict verdict answerIn leaves placed placeOf reached transposedPlaceOf overTaps windowOf add mul lt ofInt
 bench =
     refl and refl and refl and refl and refl and refl and refl and refl
     and record { answer = refl; values = refl; indices = refl }

@@ -50,11 +50,13 @@ pub struct Layer {
     pub axis: i32,
 }
 
-// What an operator comes back with. What a number does not use is 0.
+// What an operator comes back with: a number, and for number 9 the tensor, the place of its first bad element and the number of its bad elements. What a number
+// does not use is 0.
 pub struct Answer {
     pub number: u32,
     pub tensor: u32,
     pub place: usize,
+    pub bad: usize,
 }
 
 impl Axis {
@@ -115,7 +117,7 @@ impl Layer {
 }
 
 impl Answer {
-    // An answer that tells no tensor and no place.
+    // An answer that tells no tensor, no place and no bad elements.
     pub fn numbered(number: u32) -> Self
         ensures { λ r. ⌜ r ≡ numbered number ⌝ }
     {
@@ -123,17 +125,19 @@ impl Answer {
             number,
             tensor: 0,
             place: 0,
+            bad: 0,
         }
     }
 
-    // Number 9: the tensor (0 input, 1 kernel) and its first bad element.
-    pub fn bad_element(tensor: u32, place: usize) -> Self
-        ensures { λ r. ⌜ r ≡ badElement tensor place ⌝ }
+    // Number 9: the tensor (0 input, 1 kernel), the place of its first bad element and the number of its bad elements.
+    pub fn bad_element(tensor: u32, place: usize, bad: usize) -> Self
+        ensures { λ r. ⌜ r ≡ badElement tensor place bad ⌝ }
     {
         Answer {
             number: 9,
             tensor,
             place,
+            bad,
         }
     }
 }

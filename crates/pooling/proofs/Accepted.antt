@@ -9,7 +9,7 @@ use Rattle.shape.specs.declared.Shape.{Shape}
 use Rattle.shape.specs.Facts.{Pooled}
 use Rattle.shape.proofs.Accepted.{pooled}
 use Rattle.tensor.specs.declared.Elements.the-variants.{Good}
-use Rattle.tensor.specs.Element.{firstBad}
+use Rattle.tensor.specs.Element.{elementCheck}
 use Rattle.call.specs.declared.Verdict.the-variants.{Run}
 use Rattle.call.specs.Checks.{poolVerdict}
 use Rattle.call.proofs.Checked.{run-taken, three-lengths}
@@ -19,7 +19,7 @@ pub record PoolFitting (s : Shape) (input : List Float) (values indices : ℕ) :
   pub input-length : length input ≡ s .inputs
   pub values-length : values ≡ s .outputs
   pub indices-length : indices ≡ s .outputs
-  pub good : firstBad input ≡ Good
+  pub good : elementCheck input ≡ Good
 
 pub pool-fitting : (l : Layer) (input : List Float) (values indices : ℕ) (s : Shape) → poolVerdict l input values indices ≡ Run s → PoolFitting s input values indices
 pool-fitting l input values indices s e =

@@ -1,22 +1,23 @@
--- Laws of the element check: what a good element is, what `Good` and `Bad` tell of a list, and one turn of the loop that finds them.
-use mathlib.Core.Path.{_≡_, refl}
+-- Laws of the element check: what a good element is, what `Good` and `Bad` tell of a tensor, and one turn of each loop: the one that finds the first bad
+-- element and the one that counts.
+use mathlib.Core.Path.{_≡_, refl, sym, _∙_}
 use mathlib.Core.Bool.{Bool, true, false, not, _&&_, cond, false≢true}
 use mathlib.Core.List.{List, [], _∷_}
-use mathlib.Core.Logic.{_⊎_, inl, inr, ⊎-elim}
-use Prim.Native.Nat.{ℕ, zero, suc, _+_, _*_, _^_, _≤_, _<_, suc-le-suc}
-use native.Mathlib.Nat.{zero-lt-suc, not-suc-le-zero, le-of-suc-le-suc, mul-one}
+use mathlib.Core.Logic.{_↔_}
+use Prim.Native.Nat.{ℕ, zero, suc, _+_, _*_, _^_, _≤_, _<_, zero-le, suc-le-suc}
+use native.Mathlib.Nat.{zero-add, zero-lt-suc, not-suc-le-zero, le-of-suc-le-suc, mul-one, pos-of-ne-zero}
 use native.Mathlib.Numerals.{add-one}
 use native.Mathlib.Omega.{arith}
 use lib.IntN.{ℤ, pos}
-use lib.Dec.{T, leb, ltb, leb→le, le→leb, ltb→lt, nltb→le, not-T}
+use lib.Dec.{T, eqb, leb, ltb, leb→le, le→leb, ltb→lt, nltb→le, not-T}
+use borrow.Author.Tests.{eqb-true, eqb-false}
 use lib.ListN.{length, drop}
 use lib.Seq.{drop-cons, drop-length}
 use lib.Ieee.{Float, nan, inf, fin, up, down, lt, eq, le, isNan, binary32, ofBits}
 use lib.Ieee.Fits.{and-i, and-l, and-r}
 use lib.Ieee.Bits.{is-true}
 use Rattle.tensor.specs.Table.{read}
-use Rattle.tensor.specs.Element.{elementOk, firstBadFrom, firstBad}
-use Rattle.tensor.specs.declared.Elements.{Elements}
+use Rattle.tensor.specs.Element.{elementOk, firstBad, badCount, elementCheck}
 use Rattle.tensor.specs.declared.Elements.the-variants.{Good, Bad}
 use Rattle.tensor.proofs.Order.{NotNan, test-same, le-of-not-lt, not-lt-of-le}
 
@@ -105,88 +106,141 @@ pub nan-bad : elementOk (pattern 0 255 1) ≡ false
 unfolding ofBits elementOk
 nan-bad = refl
 
--- ---- a list: Good
-pick-good : (b : Bool) (r : Elements) (i : ℕ) → cond b r (Bad i) ≡ Good → T b × (r ≡ Good)
-pick-good true r i e = (tt, e)
-pick-good false r i e = absurd (false≢true cc)
+-- ---- the number of bad elements, and the first
 
-good-from : (xs : List Float) (i : ℕ) → firstBadFrom i xs ≡ Good → (k : ℕ) → k < length xs → T (elementOk (read xs k))
-unfolding firstBadFrom
-good-from [] i e k h = absurd (not-suc-le-zero h)
-good-from (x ∷ xs) i e zero h = pick-good (elementOk x) (firstBadFrom (suc i) xs) i e .0
-good-from (x ∷ xs) i e (suc k) h = good-from xs (suc i) (pick-good (elementOk x) (firstBadFrom (suc i) xs) i e .1) k (le-of-suc-le-suc h)
-
-pub all-good : (xs : List Float) → firstBad xs ≡ Good → (k : ℕ) → k < length xs → T (elementOk (read xs k))
-all-good xs e k h = good-from xs 0 e k h
-
-from-good : (xs : List Float) (i : ℕ) → ((k : ℕ) → k < length xs → T (elementOk (read xs k))) → firstBadFrom i xs ≡ Good
-unfolding firstBadFrom
-from-good [] i h = refl
-from-good (x ∷ xs) i h = rw (is-true (elementOk x) (h 0 (zero-lt-suc (length xs)))) (from-good xs (suc i) (λ k l. h (suc k) (suc-le-suc l)))
-
-pub good-all : (xs : List Float) → ((k : ℕ) → k < length xs → T (elementOk (read xs k))) → firstBad xs ≡ Good
-good-all xs h = from-good xs 0 h
-
--- ---- a list: Bad
-
--- p is the place of the first bad element
-pub record FirstBad (xs : List Float) (p : ℕ) : Type 0 where
-  pub within : p < length xs
-  pub bad : elementOk (read xs p) ≡ false
-  pub earlier : (k : ℕ) → k < p → T (elementOk (read xs k))
-
--- the same where xs begins at place i
-record FirstBadFrom (xs : List Float) (i p : ℕ) : Type 0 where
-  place : ℕ
-  is : i + place ≡ p
-  first : FirstBad xs place
-
-pick-bad : (b : Bool) (r : Elements) (i p : ℕ) → cond b r (Bad i) ≡ Bad p → (T b × (r ≡ Bad p)) ⊎ ((b ≡ false) × (i ≡ p))
-pick-bad true r i p e = inl (tt, e)
-pick-bad false r i p e = inr (refl, cc)
-
-later : (x : Float) (xs : List Float) (i p : ℕ) → T (elementOk x) → FirstBadFrom xs (suc i) p → FirstBadFrom (x ∷ xs) i p
-later x xs i p t h =
-    record {
-      place = suc (h .place);
-      is = omega (arith, h .is);
-      first = record { within = suc-le-suc (h .first .within); bad = h .first .bad; earlier = go };
-    }
+-- all of them stand from the first on
+pub bad-within : (xs : List Float) → firstBad xs + badCount xs ≤ length xs
+unfolding firstBad badCount
+bad-within [] = zero-le
+bad-within (x ∷ xs) = go (elementOk x) (bad-within xs)
   where
-    go : (k : ℕ) → k < suc (h .place) → T (elementOk (read (x ∷ xs) k))
-    go zero l = t
-    go (suc k) l = h .first .earlier k (le-of-suc-le-suc l)
+    go : (b : Bool) → firstBad xs + badCount xs ≤ length xs → cond b (suc (firstBad xs)) 0 + cond b (badCount xs) (suc (badCount xs)) ≤ suc (length xs)
+    go true h = omega arith
+    go false h = omega arith
 
-here : (x : Float) (xs : List Float) (i p : ℕ) → elementOk x ≡ false → i ≡ p → FirstBadFrom (x ∷ xs) i p
-here x xs i p t e =
-    record { place = 0; is = omega arith; first = record { within = zero-lt-suc (length xs); bad = t; earlier = λ k l. absurd (not-suc-le-zero l) } }
+neither : (b : Bool) (n : ℕ) → cond b n (suc n) ≡ 0 → T b × (n ≡ 0)
+neither true n e = (tt, e)
+neither false n e = absurd (omega arith)
 
-bad-from : (xs : List Float) (i p : ℕ) → firstBadFrom i xs ≡ Bad p → FirstBadFrom xs i p
-unfolding firstBadFrom
-bad-from [] i p e = absurd (false≢true cc)
-bad-from (x ∷ xs) i p e =
-    ⊎-elim (λ h. later x xs i p (h .0) (bad-from xs (suc i) p (h .1))) (λ h. here x xs i p (h .0) (h .1)) (pick-bad (elementOk x) (firstBadFrom (suc i) xs) i p e)
+-- none is bad exactly if each element is good
+none-bad : (xs : List Float) → badCount xs ≡ 0 → (k : ℕ) → k < length xs → T (elementOk (read xs k))
+unfolding badCount
+none-bad [] e k h = absurd (not-suc-le-zero h)
+none-bad (x ∷ xs) e zero h = neither (elementOk x) (badCount xs) e .0
+none-bad (x ∷ xs) e (suc k) h = none-bad xs (neither (elementOk x) (badCount xs) e .1) k (le-of-suc-le-suc h)
 
-pub first-bad : (xs : List Float) (p : ℕ) → firstBad xs ≡ Bad p → FirstBad xs p
-first-bad xs p e =
-    let h = bad-from xs 0 p e in
-    let q : h .place ≡ p = omega (arith, h .is) in
-    rw q at (h .first)
+bad-none : (xs : List Float) → ((k : ℕ) → k < length xs → T (elementOk (read xs k))) → badCount xs ≡ 0
+unfolding badCount
+bad-none [] h = refl
+bad-none (x ∷ xs) h = rw (is-true (elementOk x) (h 0 (zero-lt-suc (length xs)))) (bad-none xs (λ k l. h (suc k) (suc-le-suc l)))
 
--- ---- the loop
+-- the first bad element, of a tensor that has one
+record First (xs : List Float) (place : ℕ) : Type 0 where
+  bad : elementOk (read xs place) ≡ false
+  earlier : (k : ℕ) → k < place → T (elementOk (read xs k))
+
+first : (xs : List Float) → 1 ≤ badCount xs → First xs (firstBad xs)
+unfolding firstBad badCount
+first [] h = absurd (not-suc-le-zero h)
+first (x ∷ xs) h = go (elementOk x) refl h (λ l. first xs l)
+  where
+    before : T (elementOk x) → First xs (firstBad xs) → (k : ℕ) → k < suc (firstBad xs) → T (elementOk (read (x ∷ xs) k))
+    before t f zero l = t
+    before t f (suc k) l = f .earlier k (le-of-suc-le-suc l)
+
+    go : (b : Bool) → elementOk x ≡ b → 1 ≤ cond b (badCount xs) (suc (badCount xs)) → (1 ≤ badCount xs → First xs (firstBad xs))
+        → First (x ∷ xs) (cond b (suc (firstBad xs)) 0)
+    go true t h f = record { bad = f h .bad; earlier = before (rw t tt) (f h) }
+    go false t h f = record { bad = t; earlier = λ k l. absurd (not-suc-le-zero l) }
+
+-- ---- what the element check tells of a tensor
+
+-- the number is 0 exactly for a good tensor
+pub good-count : (xs : List Float) → (elementCheck xs ≡ Good) ↔ (badCount xs ≡ 0)
+unfolding elementCheck
+good-count xs = go (eqb (badCount xs) 0) refl
+  where
+    go : (b : Bool) → eqb (badCount xs) 0 ≡ b → (cond b Good (Bad (firstBad xs) (badCount xs)) ≡ Good) ↔ (badCount xs ≡ 0)
+    go true t = (λ e. eqb-true _ _ t, λ e. refl)
+    go false t = (λ e. absurd (false≢true cc), λ e. absurd (eqb-false _ _ t e))
+
+pub all-good : (xs : List Float) → elementCheck xs ≡ Good → (k : ℕ) → k < length xs → T (elementOk (read xs k))
+all-good xs e = none-bad xs (good-count xs .0 e)
+
+pub good-all : (xs : List Float) → ((k : ℕ) → k < length xs → T (elementOk (read xs k))) → elementCheck xs ≡ Good
+good-all xs h = good-count xs .1 (bad-none xs h)
+
+-- The element at the place is bad and none before it is; the number is that of the bad elements, at least 1, and all of them stand from the place on.
+pub record BadElements (xs : List Float) (place count : ℕ) : Type 0 where
+  pub first : place ≡ firstBad xs
+  pub bad : elementOk (read xs place) ≡ false
+  pub earlier : (k : ℕ) → k < place → T (elementOk (read xs k))
+  pub counted : count ≡ badCount xs
+  pub some : 1 ≤ count
+  pub within : place + count ≤ length xs
+
+pub bad-elements : (xs : List Float) (place count : ℕ) → elementCheck xs ≡ Bad place count → BadElements xs place count
+unfolding elementCheck
+bad-elements xs place count e = go (eqb (badCount xs) 0) refl e
+  where
+    go : (b : Bool) → eqb (badCount xs) 0 ≡ b → cond b Good (Bad (firstBad xs) (badCount xs)) ≡ Bad place count → BadElements xs place count
+    go true t e = absurd (false≢true cc)
+    go false t e =
+        let p : firstBad xs ≡ place = cc in
+        let q : badCount xs ≡ count = cc in
+        let one = pos-of-ne-zero (eqb-false _ _ t) in
+        let f = first xs one in
+        record { first = sym p; bad = rw p at (f .bad); earlier = rw p at (f .earlier); counted = sym q; some = rw q at one; within = omega (arith, bad-within xs) }
+
+-- what it finds, from its two parts
+check-bad : (xs : List Float) (place : ℕ) → firstBad xs ≡ place → 1 ≤ badCount xs → Bad place (badCount xs) ≡ elementCheck xs
+unfolding elementCheck
+check-bad xs place p one = go (eqb (badCount xs) 0) refl
+  where
+    go : (b : Bool) → eqb (badCount xs) 0 ≡ b → Bad place (badCount xs) ≡ cond b Good (Bad (firstBad xs) (badCount xs))
+    go true t = absurd (omega (arith, eqb-true (badCount xs) 0 t))
+    go false t = rw p
+
+-- ---- the loop that counts
 
 -- one element more
-pub step-good : (xs : List Float) (i : ℕ) → i < length xs → elementOk (read xs i) ≡ true → firstBadFrom i (drop i xs) ≡ firstBadFrom (i + 1) (drop (i + 1) xs)
-unfolding firstBadFrom
-step-good xs i h e = rw (add-one, drop-cons xs i nan, e)
+pub count-good : (xs : List Float) (i : ℕ) → i < length xs → elementOk (read xs i) ≡ true → badCount (drop i xs) ≡ badCount (drop (i + 1) xs)
+unfolding badCount
+count-good xs i h e = rw (add-one, drop-cons xs i nan, e)
 
-pub step-bad : (xs : List Float) (i : ℕ) → i < length xs → elementOk (read xs i) ≡ false → firstBadFrom i (drop i xs) ≡ Bad i
-unfolding firstBadFrom
-step-bad xs i h e = rw (drop-cons xs i nan, e)
+pub count-bad : (xs : List Float) (i : ℕ) → i < length xs → elementOk (read xs i) ≡ false → badCount (drop i xs) ≡ badCount (drop (i + 1) xs) + 1
+unfolding badCount
+count-bad xs i h e = rw (add-one (badCount (drop (i + 1) xs)), add-one i, drop-cons xs i nan, e)
 
 -- none left
-pub done : (xs : List Float) (i : ℕ) → i ≤ length xs → length xs ≤ i → firstBadFrom i (drop i xs) ≡ Good
-unfolding firstBadFrom
-done xs i h k =
+pub count-none : (xs : List Float) (i : ℕ) → i ≤ length xs → length xs ≤ i → badCount (drop i xs) ≡ 0
+unfolding badCount
+count-none xs i h k =
     let e : i ≡ length xs = omega arith in
     rw (e, drop-length)
+
+-- ---- the loop that finds the first
+
+-- the elements before place i are good
+pub record GoodBefore (xs : List Float) (i : ℕ) : Type 0 where
+  pub count : badCount (drop i xs) ≡ badCount xs
+  pub place : i + firstBad (drop i xs) ≡ firstBad xs
+
+pub good-before : (xs : List Float) → GoodBefore xs 0
+good-before xs = record { count = refl; place = zero-add _ }
+
+pub good-more : (xs : List Float) (i : ℕ) → i < length xs → elementOk (read xs i) ≡ true → GoodBefore xs i → GoodBefore xs (i + 1)
+unfolding firstBad
+good-more xs i h e g =
+    let more : firstBad (drop i xs) ≡ suc (firstBad (drop (i + 1) xs)) = rw (add-one, drop-cons xs i nan, e) in
+    record { count = sym (count-good xs i h e) ∙ g .count; place = omega (arith, g .place) }
+
+pub found-bad : (xs : List Float) (i : ℕ) → i < length xs → elementOk (read xs i) ≡ false → GoodBefore xs i → Bad i (badCount xs) ≡ elementCheck xs
+unfolding firstBad
+found-bad xs i h e g =
+    let here : firstBad (drop i xs) ≡ 0 = rw (drop-cons xs i nan, e) in
+    let place : firstBad xs ≡ i = omega (arith, g .place) in
+    check-bad xs i place (omega (arith, g .count, count-bad xs i h e))
+
+pub found-none : (xs : List Float) (i : ℕ) → i ≤ length xs → length xs ≤ i → GoodBefore xs i → Good ≡ elementCheck xs
+found-none xs i h k g = sym (good-count xs .1 (sym (g .count) ∙ count-none xs i h k))

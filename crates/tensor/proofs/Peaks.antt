@@ -13,7 +13,7 @@ use lib.Seq.{getD-at, getD-append-add}
 use lib.Ieee.{Float, lt, le}
 use borrow.Author.Tests.{eqb-false}
 use Rattle.tensor.specs.Table.{read, tabulate}
-use Rattle.tensor.specs.Element.{firstBad}
+use Rattle.tensor.specs.Element.{elementCheck}
 use Rattle.tensor.specs.Window.{bestOf, betterOf, upTo, All, FirstLargest, HoldsBest}
 use Rattle.tensor.specs.Peak.{noPeak, wrongLength, peakAt, checkedPeak, peakOf, LargestOfPlane}
 use Rattle.tensor.specs.declared.Window.{Window}
@@ -76,7 +76,7 @@ module _ (xs : List Float) (n : ℕ) (v : Float) (p : ℕ) (h : FirstLargest xs 
           subst (λ (u : Float). T (le u v)) (h .value ∙ ap (read xs) (sym e)) (le-refl v t)
 
 -- ---- the peak of a plane of good elements
-module _ (plane : List Float) (width : ℕ) (good : firstBad plane ≡ Good) (some : 0 < width) where
+module _ (plane : List Float) (width : ℕ) (good : elementCheck plane ≡ Good) (some : 0 < width) where
   number : (q : ℕ) → q < length plane → NotNan (read plane q)
   number q l = element-number (read plane q) (all-good plane good q l)
 
@@ -107,11 +107,11 @@ module _ (plane : List Float) (width : ℕ) (good : firstBad plane ≡ Good) (so
   some-element (Best v p) h l = refl
 
 -- ---- the peak of any plane
-of-check : (plane : List Float) (width : ℕ) (f : Elements) → firstBad plane ≡ f → 0 < width → checkedPeak plane width f .number ≡ 0
+of-check : (plane : List Float) (width : ℕ) (f : Elements) → elementCheck plane ≡ f → 0 < width → checkedPeak plane width f .number ≡ 0
     → LargestOfPlane plane width (checkedPeak plane width f .peak)
 of-check plane width Good q h e =
     of-window plane width q h (bestOf plane (upTo (length plane)) Empty) (holds-best plane width q h) e
-of-check plane width (Bad p) q h e = absurd (omega arith)
+of-check plane width (Bad place count) q h e = absurd (omega arith)
 
 right-length : (len width : ℕ) → wrongLength len width ≡ false → (0 < width) × (0 < len)
 right-length len width e = go (eqb width 0) (eqb len 0) refl refl e
@@ -125,13 +125,13 @@ right-length len width e = go (eqb width 0) (eqb len 0) refl refl e
 pub peak-largest : (plane : List Float) (width : ℕ) → peakOf plane width .number ≡ 0 → LargestOfPlane plane width (peakOf plane width .peak)
 peak-largest plane width e = go (wrongLength (length plane) width) refl e
   where
-    go : (b : Bool) → wrongLength (length plane) width ≡ b → cond b (noPeak 8 0) (checkedPeak plane width (firstBad plane)) .number ≡ 0
-        → LargestOfPlane plane width (cond b (noPeak 8 0) (checkedPeak plane width (firstBad plane)) .peak)
+    go : (b : Bool) → wrongLength (length plane) width ≡ b → cond b (noPeak 8 0 0) (checkedPeak plane width (elementCheck plane)) .number ≡ 0
+        → LargestOfPlane plane width (cond b (noPeak 8 0 0) (checkedPeak plane width (elementCheck plane)) .peak)
     go true q e = absurd (omega arith)
-    go false q e = of-check plane width (firstBad plane) refl (right-length (length plane) width q .0) e
+    go false q e = of-check plane width (elementCheck plane) refl (right-length (length plane) width q .0) e
 
 -- and it is 0 wherever neither 8 nor 9 has its reason
-pub peak-found : (plane : List Float) (width : ℕ) → wrongLength (length plane) width ≡ false → firstBad plane ≡ Good → peakOf plane width .number ≡ 0
+pub peak-found : (plane : List Float) (width : ℕ) → wrongLength (length plane) width ≡ false → elementCheck plane ≡ Good → peakOf plane width .number ≡ 0
 peak-found plane width e g =
     let h = right-length (length plane) width e in
     rw (e, g) (some-element plane width g (h .0) (bestOf plane (upTo (length plane)) Empty) (holds-best plane width g (h .0)) (h .1))

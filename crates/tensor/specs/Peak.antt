@@ -7,7 +7,7 @@ use lib.Dec.{T, eqb}
 use lib.ListN.{length}
 use lib.Ieee.{Float, lt, le}
 use Rattle.tensor.specs.Table.{read, plusZero}
-use Rattle.tensor.specs.Element.{firstBad}
+use Rattle.tensor.specs.Element.{elementCheck}
 use Rattle.tensor.specs.Window.{bestOf, upTo}
 use Rattle.tensor.specs.declared.Peak.{Peak}
 use Rattle.tensor.specs.declared.PeakAnswer.{PeakAnswer}
@@ -17,26 +17,26 @@ use Rattle.tensor.specs.declared.Elements.{Elements}
 use Rattle.tensor.specs.declared.Elements.the-variants.{Good, Bad}
 
 -- "The record is then zeros."
-abbrev pub noPeak : ℕ → ℕ → PeakAnswer
-noPeak number place = record { number = number; place = place; peak = record { value = plusZero; row = 0; column = 0 } }
+abbrev pub noPeak : ℕ → ℕ → ℕ → PeakAnswer
+noPeak number place bad = record { number = number; place = place; bad = bad; peak = record { value = plusZero; row = 0; column = 0 } }
 
 -- "Width 0, an empty plane or a length that is no multiple of the width: 8."
 abbrev pub wrongLength : ℕ → ℕ → Bool
 wrongLength len width = eqb width 0 || (eqb len 0 || not (eqb (len % width) 0))
 
 -- Place p of a plane is at row p / width and column p % width. Only an empty plane, which is refused before, has an empty window.
--- "A tensor, place or line that a number doesn't use is 0."
+-- "A tensor, place, number of bad elements or line that a number doesn't use is 0"
 abbrev pub peakAt : ℕ → Window → PeakAnswer
-peakAt width Empty = noPeak 8 0
-peakAt width (Best v p) = record { number = 0; place = 0; peak = record { value = v; row = p / width; column = p % width } }
+peakAt width Empty = noPeak 8 0 0
+peakAt width (Best v p) = record { number = 0; place = 0; bad = 0; peak = record { value = v; row = p / width; column = p % width } }
 
--- "A bad element: 9 and its place."
+-- "A bad element: 9, the first one's place and the number of bad elements in the plane"
 abbrev pub checkedPeak : List Float → ℕ → Elements → PeakAnswer
 checkedPeak plane width Good = peakAt width (bestOf plane (upTo (length plane)) Empty)
-checkedPeak plane width (Bad p) = noPeak 9 p
+checkedPeak plane width (Bad place count) = noPeak 9 place count
 
 abbrev pub peakOf : List Float → ℕ → PeakAnswer
-peakOf plane width = cond (wrongLength (length plane) width) (noPeak 8 0) (checkedPeak plane width (firstBad plane))
+peakOf plane width = cond (wrongLength (length plane) width) (noPeak 8 0 0) (checkedPeak plane width (elementCheck plane))
 
 -- ---- the same without the fold, for the law that the finder's peak is it
 

@@ -5,7 +5,7 @@ use layer::size_ok;
 ghost use Prim.Native.Nat.{_+_, _*_, _/_, _%_, _≤_};
 ghost use mathlib.Core.Path.{_≡_};
 ghost use lib.ListN.{length};
-ghost use Rattle.tensor.specs.Element.{elementOk, firstBad};
+ghost use Rattle.tensor.specs.Element.{elementOk, badCount, elementCheck};
 ghost use Rattle.tensor.specs.Window.{betterOf, bestOf, upTo};
 ghost use Rattle.tensor.specs.Plane.{sizesOk, hasPlane, partOf, planeOf};
 ghost use Rattle.tensor.specs.Peak.{noPeak, wrongLength, peakAt, peakOf};
@@ -34,10 +34,10 @@ fn remainder(a: usize, b: usize) -> usize
 
 // ---- the element check
 
-// What the element check finds: every element is good, or the first place of one that is not.
+// What the element check finds: every element is good, or the place of the first bad one and the number of bad ones.
 pub enum Elements {
     Good,
-    Bad(usize),
+    Bad(usize, usize),
 }
 
 // Magnitude at most 2^40, and not NaN.
@@ -47,14 +47,29 @@ fn element_ok(x: f32) -> bool
     (x <= 1099511627776.0) & (-1099511627776.0 <= x)
 }
 
-// Number 9: whether every element is good.
+// How many elements are bad.
+fn bad_count(elements: &[f32]) -> usize
+    ensures { λ r. ⌜ r ≡ badCount (now (elements .entry)) ⌝ }
+{
+    let mut count = 0usize;
+    let mut i = 0usize;
+    while i < elements.len() {
+        if !element_ok(elements[i]) {
+            count += 1;
+        }
+        i += 1;
+    }
+    count
+}
+
+// Number 9: whether every element is good. A good tensor is looked at once; bad elements are counted where there is one.
 pub fn check_elements(xs: &[f32]) -> Elements
-    ensures { λ r. ⌜ r ≡ firstBad (now (xs .entry)) ⌝ }
+    ensures { λ r. ⌜ r ≡ elementCheck (now (xs .entry)) ⌝ }
 {
     let mut i = 0usize;
     while i < xs.len() {
         if !element_ok(xs[i]) {
-            return Elements::Bad(i);
+            return Elements::Bad(i, bad_count(xs));
         }
         i += 1;
     }
@@ -159,20 +174,22 @@ pub struct Peak {
     pub column: usize,
 }
 
-// What the peak finder comes back with. The place is that of a bad element, for number 9.
+// What the peak finder comes back with: for number 9 the place of the first bad element and the number of bad ones.
 pub struct PeakAnswer {
     pub number: u32,
     pub place: usize,
+    pub bad: usize,
     pub peak: Peak,
 }
 
 // A refusal: the record is zeros.
-fn no_peak(number: u32, place: usize) -> PeakAnswer
-    ensures { λ r. ⌜ r ≡ noPeak number place ⌝ }
+fn no_peak(number: u32, place: usize, bad: usize) -> PeakAnswer
+    ensures { λ r. ⌜ r ≡ noPeak number place bad ⌝ }
 {
     PeakAnswer {
         number,
         place,
+        bad,
         peak: Peak {
             value: 0.0,
             row: 0,
@@ -207,10 +224,11 @@ fn peak_at(width: usize, best: Window) -> PeakAnswer
     ensures { λ r. ⌜ r ≡ peakAt width best ⌝ }
 {
     match best {
-        Window::Empty => no_peak(8, 0),
+        Window::Empty => no_peak(8, 0, 0),
         Window::Best(v, p) => PeakAnswer {
             number: 0,
             place: 0,
+            bad: 0,
             peak: Peak {
                 value: v,
                 row: quotient(p, width),
@@ -225,11 +243,11 @@ pub fn find_peak(plane: &[f32], width: usize) -> PeakAnswer
     ensures { λ r. ⌜ r ≡ peakOf (now (plane .entry)) width ⌝ }
 {
     if wrong_length(plane.len(), width) {
-        return no_peak(8, 0);
+        return no_peak(8, 0, 0);
     }
     let found = check_elements(plane);
-    if let Elements::Bad(p) = found {
-        return no_peak(9, p);
+    if let Elements::Bad(place, count) = found {
+        return no_peak(9, place, count);
     }
     let best = best_of_plane(plane);
     peak_at(width, best)

@@ -11,7 +11,7 @@ use Rattle.faults.specs.declared.Fault.{Fault}
 use Rattle.faults.specs.declared.Fault.the-variants.{Fine, At}
 use Rattle.writer.specs.declared.Written.{Written}
 
--- number 0: "A tensor, place or line that a number doesn't use is 0."
+-- number 0: "A tensor, place, number of bad elements or line that a number doesn't use is 0"
 abbrev pub written : ℕ → Written
 written n = record { number = 0; line = 0; length = n }
 

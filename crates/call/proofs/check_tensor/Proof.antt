@@ -11,7 +11,7 @@ returns c = sym (last-good _ _ _ (sym (c .before .before .check-elements .ensure
 returns-2 : tie.Need-returns-2
 returns-2 c =
     let a = c .before .before .before .before in
-    rw (c .bad-element .ensures) (sym (first-bad _ _ _ _ _ (sym (a .check-elements .ensures) ∙ c .before .before .found .given .1)))
+    rw (c .bad-element .ensures) (sym (first-bad _ _ _ _ _ _ (sym (a .check-elements .ensures) ∙ c .before .before .found .given .1)))
 
 pub check-tensor-spec : {M : Type 1} → statement M
 check-tensor-spec =

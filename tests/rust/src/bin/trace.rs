@@ -45,13 +45,19 @@ impl Folded {
     }
 }
 
-/// The words of a folded text: what white space parts, without the punctuation round it. Punctuation alone is no word.
+/// Whether a word in parentheses is a mark like `(C-24)`: by the request of that number the sentence before it says what it says now.
+fn is_mark(part: &str, word: &str) -> bool {
+    let digits = word.strip_prefix("C-").unwrap_or_default();
+    part.starts_with('(') && digits.len() == 2 && digits.chars().all(|c| c.is_ascii_digit())
+}
+
+/// The words of a folded text: what white space parts, without the punctuation round it. Punctuation alone is no word, nor is the mark of a request.
 fn words(text: &str) -> Vec<Range<usize>> {
     let mut found = Vec::new();
     let mut start = 0;
     for part in text.split(' ') {
         let word = part.trim_matches(PUNCTUATION);
-        if !word.is_empty() {
+        if !word.is_empty() && !is_mark(part, word) {
             let from = start + (part.len() - part.trim_start_matches(PUNCTUATION).len());
             found.push(from..from + word.len());
         }
