@@ -30,7 +30,7 @@ extern "C" {
 
 /* The version of this header. koza_version() tells that of the archive: a program that was compiled with another header finds out. */
 #define KOZA_VERSION_MAJOR 1
-#define KOZA_VERSION_MINOR 1
+#define KOZA_VERSION_MINOR 2
 #define KOZA_VERSION_PATCH 0
 #define KOZA_VERSION (KOZA_VERSION_MAJOR * 10000 + KOZA_VERSION_MINOR * 100 + KOZA_VERSION_PATCH)
 
@@ -83,10 +83,11 @@ static inline const char *koza_text(uint32_t number) {
 
 /* ---- answers: what a number does not use is 0 */
 
-/* `line` for 20 to 23; `tensor` (0 input, looked at first; 1 kernel) and the first bad `place` in it for 9. */
+/* `line` for 20 to 23; for 9 `tensor` (0 input, looked at first; 1 kernel), the first bad `place` in it and how many of its elements are `bad`. The kernel is
+ * not looked at when the input is bad. */
 typedef struct {
     uint32_t number, line, tensor;
-    size_t place;
+    size_t place, bad;
 } koza_answer;
 
 /* The output's sizes; zeros but for `number` and `line` where the call is refused. With one axis `y` is 1. */
@@ -101,10 +102,10 @@ typedef struct {
     size_t input, kernel, output;
 } koza_lengths_answer;
 
-/* The first largest element of a plane; zeros but for `number` and, for 9, `place` where the call is refused. */
+/* The first largest element of a plane; zeros but for `number` and, for 9, the first bad `place` and how many elements are `bad` where the call is refused. */
 typedef struct {
     uint32_t number;
-    size_t place;
+    size_t place, bad;
     float value;
     size_t row, column;
 } koza_peak_answer;
@@ -154,8 +155,8 @@ koza_written koza_rewrite(const uint8_t *sheet, size_t sheet_len, uint8_t *buffe
  * element is looked at. */
 koza_part koza_plane(const float *tensor, size_t tensor_len, uint32_t n, uint32_t c, uint32_t y, uint32_t x, uint32_t image, uint32_t channel);
 
-/* The first largest element of a plane with rows of `width` elements. 8: width 0, no element, or a length that is no multiple of the width. 9: a bad element,
- * at `place`. */
+/* The first largest element of a plane with rows of `width` elements. 8: width 0, no element, or a length that is no multiple of the width. 9: `bad` bad
+ * elements, the first at `place`. */
 koza_peak_answer koza_peak(const float *plane, size_t plane_len, size_t width);
 
 /* ---- helpers of the header alone, not proved */

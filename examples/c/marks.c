@@ -5,6 +5,7 @@
 #include "kozamyure.h"
 #include <errno.h>
 #include <inttypes.h>
+#include <math.h>
 #include <stdio.h>
 #include <stdlib.h>
 #include <string.h>
@@ -32,8 +33,8 @@ typedef struct {
 /* Ends the program unless the answer is 0. */
 static void done(const char *what, koza_answer a) {
     if (a.number != KOZA_DONE)
-        STOP(1, "%s is refused: number %" PRIu32 ", line %" PRIu32 ", tensor %" PRIu32 ", place %zu: %s", what, a.number, a.line, a.tensor,
-             a.place, koza_text(a.number));
+        STOP(1, "%s is refused: number %" PRIu32 ", line %" PRIu32 ", tensor %" PRIu32 ", place %zu, %zu bad: %s", what, a.number, a.line, a.tensor,
+             a.place, a.bad, koza_text(a.number));
 }
 
 /* Reads a sheet and asks for the sizes that it leads to. No sheet has more bytes than KOZA_SHEET_MAX. */
@@ -72,7 +73,7 @@ static plane first_plane(const layer *l, const float *output) {
 
 static koza_peak_answer print_peak(const char *name, plane p) {
     koza_peak_answer peak = koza_peak(p.elements, p.height * p.width, p.width);
-    done(name, (koza_answer){.number = peak.number, .place = peak.place});
+    done(name, (koza_answer){.number = peak.number, .place = peak.place, .bad = peak.bad});
     printf("%s: peak %g at row %zu, column %zu\n", name, peak.value, peak.row, peak.column);
     return peak;
 }
@@ -141,6 +142,18 @@ static void draw_picture(void) {
     picture[5 * WIDTH + 8] = picture[4 * WIDTH + 8] = picture[6 * WIDTH + 8] = picture[5 * WIDTH + 7] = picture[5 * WIDTH + 9] = 50;
 }
 
+/* Calls that are refused change nothing. How many elements are bad tells a few specks from a camera that has failed. */
+static void print_refusals(const layer *conv, float *marks) {
+    size_t len = HEIGHT * WIDTH, marks_len = conv->lengths.output;
+    float specks[HEIGHT * WIDTH];
+    memcpy(specks, picture, sizeof specks);
+    specks[17] = specks[40] = specks[95] = NAN;
+    koza_answer a = koza_convolution(conv->sheet, conv->sheet_len, picture, len - 1, cross, 9, marks, marks_len);
+    printf("one element too few: number %" PRIu32 "\n", a.number);
+    a = koza_convolution(conv->sheet, conv->sheet_len, specks, len, cross, 9, marks, marks_len);
+    printf("three elements NaN: number %" PRIu32 ", %zu bad elements, the first at %zu\n", a.number, a.bad, a.place);
+}
+
 static void run(const layer *conv, const layer *pool, const layer *trans, const char *folder) {
     float *marks = output_of(conv, sizeof *marks), *values = output_of(pool, sizeof *values), *map = output_of(trans, sizeof *map);
     int64_t *indices = output_of(pool, sizeof *indices);
@@ -157,10 +170,7 @@ static void run(const layer *conv, const layer *pool, const layer *trans, const 
     done("transposed", koza_transposed(trans->sheet, trans->sheet_len, values, values_len, spread, 4, map, map_len));
     koza_peak_answer peak = print_peak("transposed", first_plane(trans, map));
 
-    /* A call that is refused changes nothing: one element too few. */
-    koza_answer refused = koza_convolution(conv->sheet, conv->sheet_len, picture, HEIGHT * WIDTH - 1, cross, 9, marks, marks_len);
-    printf("one element too few: number %" PRIu32 "\n", refused.number);
-
+    print_refusals(conv, marks);
     if (folder) {
         write_plane(folder, "picture.pgm", (plane){picture, HEIGHT, WIDTH}, NULL);
         write_plane(folder, "convolution.pgm", first_plane(conv, marks), NULL);

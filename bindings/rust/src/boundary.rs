@@ -1,6 +1,7 @@
 //! The C boundary of the library, word for word as `include/kozamyure.h` declares it.
 
-/// `line` for 20 to 23; `tensor` (0 input, looked at first; 1 kernel) and the first bad `place` in it for 9. What a number does not use is 0.
+/// `line` for 20 to 23; for 9 `tensor` (0 input, looked at first; 1 kernel), the first bad `place` in it and how many of its elements are `bad`. The kernel
+/// is not looked at when the input is bad. What a number does not use is 0.
 #[repr(C)]
 #[derive(Clone, Copy, Debug, PartialEq, Eq)]
 pub struct Answer {
@@ -8,10 +9,12 @@ pub struct Answer {
     pub number: u32,
     /// The sheet's line.
     pub line: u32,
-    /// The tensor with the bad element.
+    /// The tensor with bad elements.
     pub tensor: u32,
-    /// The bad element's place.
+    /// The first bad element's place.
     pub place: usize,
+    /// The number of bad elements.
+    pub bad: usize,
 }
 
 /// The output's sizes; zeros but for `number` and `line` where the call is refused. With one axis `y` is 1.
@@ -51,14 +54,16 @@ pub struct LengthsAnswer {
     pub output: usize,
 }
 
-/// The first largest element of a plane; zeros but for `number` and, for 9, `place` where the call is refused.
+/// The first largest element of a plane; zeros but for `number` and, for 9, the first bad `place` and how many elements are `bad` where the call is refused.
 #[repr(C)]
 #[derive(Clone, Copy, Debug, PartialEq)]
 pub struct PeakAnswer {
     /// The number, 0 where there is a peak.
     pub number: u32,
-    /// The bad element's place.
+    /// The first bad element's place.
     pub place: usize,
+    /// The number of bad elements.
+    pub bad: usize,
     /// The largest element, with its own bits.
     pub value: f32,
     /// Its row.

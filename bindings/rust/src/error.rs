@@ -1,7 +1,7 @@
 //! Refusals: a number of document 01's table, what it means, and where the fault is.
 use std::fmt;
 
-/// Which tensor holds a bad element.
+/// Which tensor holds bad elements.
 #[derive(Debug, Clone, Copy, PartialEq, Eq)]
 pub enum Tensor {
     /// The input of an operator.
@@ -19,16 +19,23 @@ pub struct Error {
     pub number: u32,
     /// The sheet's line, for 20 to 23.
     pub line: u32,
-    /// The tensor with a bad element, for 9.
+    /// The tensor with bad elements, for 9. The kernel is not looked at when the input is bad.
     pub tensor: Option<Tensor>,
     /// The place of its first bad element, for 9.
     pub place: usize,
+    /// The number of its bad elements, for 9.
+    pub bad: usize,
 }
 
 impl Error {
-    /// The refusal with this number; number 0 is none.
-    pub(crate) fn check(number: u32, line: u32, tensor: Option<Tensor>, place: usize) -> Result<(), Error> {
-        if number == 0 { Ok(()) } else { Err(Error { number, line, tensor, place }) }
+    /// A refusal, unless its number is 0.
+    pub(crate) fn check(self) -> Result<(), Error> {
+        if self.number == 0 { Ok(()) } else { Err(self) }
+    }
+
+    /// A refusal that looks at no element, unless its number is 0.
+    pub(crate) fn check_sheet(number: u32, line: u32) -> Result<(), Error> {
+        Error { number, line, tensor: None, place: 0, bad: 0 }.check()
     }
 }
 
@@ -38,14 +45,15 @@ impl fmt::Display for Error {
     fn fmt(&self, f: &mut fmt::Formatter<'_>) -> fmt::Result {
         write!(f, "number {}: {}", self.number, text(self.number))?;
         let tensor = match self.tensor {
-            Some(Tensor::Input) => " of the input",
-            Some(Tensor::Kernel) => " of the kernel",
-            Some(Tensor::Plane) => " of the plane",
+            Some(Tensor::Input) => "the input has ",
+            Some(Tensor::Kernel) => "the kernel has ",
+            Some(Tensor::Plane) => "the plane has ",
             None => "",
         };
-        match self.number {
-            9 => write!(f, "; at place {}{tensor}", self.place),
-            20..=23 => write!(f, "; at line {}", self.line),
+        match (self.number, self.bad) {
+            (9, 1) => write!(f, "; {tensor}1 bad element, at {}", self.place),
+            (9, bad) => write!(f, "; {tensor}{bad} bad elements, the first at {}", self.place),
+            (20..=23, _) => write!(f, "; at line {}", self.line),
             _ => Ok(()),
         }
     }

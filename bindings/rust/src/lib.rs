@@ -90,14 +90,14 @@ pub struct Peak {
 /// Reads the sheet, makes checks 1 to 7 of its own operator and gives the output's sizes. Refused with 1 to 7 and 20 to 23.
 pub fn shape(sheet: &[u8]) -> Result<Shape, Error> {
     let a = answers::shape(sheet);
-    Error::check(a.number, a.line, None, 0)?;
+    Error::check_sheet(a.number, a.line)?;
     Ok(Shape { axes: a.axes, n: a.n, c: a.c, y: a.y, x: a.x })
 }
 
 /// Reads the sheet, makes checks 1 to 7 of its own operator and gives the lengths of its buffers. Refused with 1 to 7 and 20 to 23.
 pub fn lengths(sheet: &[u8]) -> Result<Lengths, Error> {
     let a = answers::lengths(sheet);
-    Error::check(a.number, a.line, None, 0)?;
+    Error::check_sheet(a.number, a.line)?;
     Ok(Lengths { input: a.input, kernel: a.kernel, output: a.output })
 }
 
@@ -120,14 +120,14 @@ pub fn maxpool(sheet: &[u8], input: &[f32], values: &mut [f32], indices: &mut [i
 
 fn written(a: answers::Answer) -> Result<(), Error> {
     let tensor = if a.tensor == 0 { Tensor::Input } else { Tensor::Kernel };
-    Error::check(a.number, a.line, (a.number == 9).then_some(tensor), a.place)
+    Error { number: a.number, line: a.line, tensor: (a.number == 9).then_some(tensor), place: a.place, bad: a.bad }.check()
 }
 
 /// Reads the sheet, writes it back at the start of the buffer and gives its length in bytes; nothing beyond is touched. Refused with 20 to 24; the
 /// buffer is then as it was.
 pub fn rewrite(sheet: &[u8], buffer: &mut [u8]) -> Result<usize, Error> {
     let a = answers::rewrite(sheet, buffer);
-    Error::check(a.number, a.line, None, 0)?;
+    Error::check_sheet(a.number, a.line)?;
     Ok(a.length)
 }
 
@@ -140,10 +140,10 @@ pub fn plane(tensor: &[f32], sizes: [u32; 4], image: u32, channel: u32) -> &[f32
 }
 
 /// The first largest element of a plane with rows of `width` elements. Refused with 8 where width is 0, there is no element or the length is no
-/// multiple of the width, and with 9 and the place where an element is bad.
+/// multiple of the width, and with 9, the first bad place and the number of bad elements where an element is bad.
 pub fn peak(plane: &[f32], width: usize) -> Result<Peak, Error> {
     let a = answers::peak(plane, width);
-    Error::check(a.number, 0, (a.number == 9).then_some(Tensor::Plane), a.place)?;
+    Error { number: a.number, line: 0, tensor: (a.number == 9).then_some(Tensor::Plane), place: a.place, bad: a.bad }.check()?;
     Ok(Peak { value: a.value, row: a.row, column: a.column })
 }
 

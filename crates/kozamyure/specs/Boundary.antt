@@ -1,5 +1,5 @@
 -- The C boundary. Each call takes the text of a sheet: a sheet that is not read is refused with its number, 20 to 23, and its line; else the answer is that of
--- the function on the layer that the sheet says. "A tensor, place or line that a number doesn't use is 0."
+-- the function on the layer that the sheet says. "A tensor, place, number of bad elements or line that a number doesn't use is 0"
 use Prim.Native.Nat.{ℕ, _+_, _*_}
 use mathlib.Core.List.{List}
 use lib.IntN.{ℤ}
@@ -35,11 +35,11 @@ use Rattle.kozamyure.specs.declared.SheetWritten.{SheetWritten}
 
 -- "A refused read hands over the number and line and no record": a sheet that is not read
 abbrev pub unread : ℕ → ℕ → CallAnswer
-unread number line = record { number = number; line = line; tensor = 0; place = 0 }
+unread number line = record { number = number; line = line; tensor = 0; place = 0; bad = 0 }
 
 -- an operator's own answer
 abbrev pub answered : Answer → CallAnswer
-answered a = record { number = a .number; line = 0; tensor = a .tensor; place = a .place }
+answered a = record { number = a .number; line = 0; tensor = a .tensor; place = a .place; bad = a .bad }
 
 unfoldable pub callAnswer : Op → Read → List Float → List Float → ℕ → CallAnswer
 callAnswer op (Sheet l) input kernel output = answered (answerOf op l input kernel output)
@@ -103,7 +103,7 @@ planePart p = record { start = p .start; length = p .length }
 -- ---- the peak finder
 
 abbrev pub peakFound : PeakAnswer → PeakFound
-peakFound a = record { number = a .number; place = a .place; value = a .peak .value; row = a .peak .row; column = a .peak .column }
+peakFound a = record { number = a .number; place = a .place; bad = a .bad; value = a .peak .value; row = a .peak .row; column = a .peak .column }
 
 -- ---- a sheet read and written back
 
@@ -119,7 +119,7 @@ unfoldable pub rewriteBuffer : Read → List ℕ → List ℕ
 rewriteBuffer (Sheet l) buffer = bufferAfter l buffer
 rewriteBuffer (Refused number line) buffer = buffer
 
--- ---- the version of the library, 1.1.0
+-- ---- the version of the library, 1.2.0
 
 abbrev pub version : ℕ
-version = 1 * 10000 + 1 * 100 + 0
+version = 1 * 10000 + 2 * 100 + 0

@@ -26,13 +26,14 @@ ghost use Rattle.sheet.specs.Sheet.{readSheet};
 ghost use Rattle.report.specs.Output.{outputOf};
 ghost use Rattle.kozamyure.specs.Boundary.{unread, answered, callAnswer, callContents, poolAnswer, poolValues, poolIndices, noShape, sizesShape, shapeAnswer, noLengths, kernelLength, lengthsIn, lengthsAnswer, planePart, peakFound, rewriteAnswer, rewriteBuffer, version};
 
-// An operator's answer: the line for numbers 20 to 23, the tensor and the place for 9.
+// An operator's answer: the line for numbers 20 to 23; for 9 the tensor, the place of its first bad element and the number of its bad elements.
 #[repr(C)]
 pub struct CallAnswer {
     pub number: u32,
     pub line: u32,
     pub tensor: u32,
     pub place: usize,
+    pub bad: usize,
 }
 
 // The sizes of an output; zeros but for number and line where the sheet or the layer is refused.
@@ -64,11 +65,12 @@ pub struct PlanePart {
     pub length: usize,
 }
 
-// The peak of a plane; zeros but for number and place where the plane is refused.
+// The peak of a plane; zeros but for number, place and bad where the plane is refused.
 #[repr(C)]
 pub struct PeakFound {
     pub number: u32,
     pub place: usize,
+    pub bad: usize,
     pub value: f32,
     pub row: usize,
     pub column: usize,
@@ -90,6 +92,7 @@ fn no_call(number: u32, line: u32) -> CallAnswer
         line,
         tensor: 0,
         place: 0,
+        bad: 0,
     }
 }
 
@@ -101,6 +104,7 @@ fn call_answer(a: Answer) -> CallAnswer
         line: 0,
         tensor: a.tensor,
         place: a.place,
+        bad: a.bad,
     }
 }
 
@@ -273,11 +277,12 @@ pub extern "C" fn koza_plane(
 pub extern "C" fn koza_peak(plane: &[f32], width: usize) -> PeakFound
     ensures { λ r. ⌜ r ≡ peakFound (peakOf (now (plane .entry)) width) ⌝ }
 {
-    let a = find_peak(plane, width);
-    let peak = a.peak;
+    let found = find_peak(plane, width);
+    let peak = found.peak;
     PeakFound {
-        number: a.number,
-        place: a.place,
+        number: found.number,
+        place: found.place,
+        bad: found.bad,
         value: peak.value,
         row: peak.row,
         column: peak.column,
@@ -314,5 +319,5 @@ pub extern "C" fn koza_rewrite(sheet: &[u8], buffer: &mut [u8]) -> SheetWritten
 pub extern "C" fn koza_version() -> u32
     ensures { λ r. ⌜ r ≡ version ⌝ }
 {
-    10100
+    10200
 }

@@ -30,7 +30,7 @@ impl Layer {
     }
 }
 
-/// What a call gives. A refusal is told, with its number, meaning and place, and ends the program.
+/// What a call gives. A refusal is told, with its number, its meaning and where the fault is, and ends the program.
 fn done<T>(name: &str, result: Result<T, Error>) -> T {
     result.unwrap_or_else(|e| {
         eprintln!("marks: {name} is refused with {e}");
@@ -69,7 +69,19 @@ fn main() {
     done("transposed", kozamyure::transposed(&trans.sheet, &values, &spread, &mut map));
     trans.peak("transposed", &map);
 
-    // A call that is refused changes nothing: one element too few.
-    let refused = kozamyure::convolution(&conv.sheet, &picture[1..], &cross, &mut marks);
-    println!("one element too few: number {}", refused.err().map_or(0, |e| e.number));
+    print_refusals(&conv, &picture, &cross, &mut marks);
+}
+
+/// Calls that are refused change nothing. How many elements are bad tells a few specks from a camera that has failed.
+fn print_refusals(conv: &Layer, picture: &[f32], cross: &[f32], marks: &mut [f32]) {
+    let mut specks = picture.to_vec();
+    for place in [17, 40, 95] {
+        specks[place] = f32::NAN;
+    }
+    if let Err(e) = kozamyure::convolution(&conv.sheet, &picture[1..], cross, marks) {
+        println!("one element too few: number {}", e.number);
+    }
+    if let Err(e) = kozamyure::convolution(&conv.sheet, &specks, cross, marks) {
+        println!("three elements NaN: number {}, {} bad elements, the first at {}", e.number, e.bad, e.place);
+    }
 }

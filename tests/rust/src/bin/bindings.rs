@@ -81,17 +81,17 @@ fn texts(header: &str) -> (BTreeMap<u32, String>, String) {
 
 // ---- texts and versions
 
-/// Every number's text, with the line, tensor and place only where the number uses them.
+/// Every number's text, with the line or the bad elements only where the number uses them.
 fn check_texts(c: &mut Compared, header: &str) {
     let (texts, other) = texts(header);
     for number in (0..=30).chain([u32::MAX]) {
         let text = texts.get(&number).unwrap_or(&other);
         let place = match number {
-            9 => "; at place 5 of the kernel",
+            9 => "; the kernel has 3 bad elements, the first at 17",
             20..=23 => "; at line 7",
             _ => "",
         };
-        let error = Error { number, line: 7, tensor: Some(Tensor::Kernel), place: 5 };
+        let error = Error { number, line: 7, tensor: Some(Tensor::Kernel), place: 17, bad: 3 };
         c.same("the text of an error", error.to_string(), format!("number {number}: {text}{place}"));
         c.same("the text of a number", kozamyure::text(number), text);
     }
@@ -167,25 +167,29 @@ fn check_refused_operators(c: &mut Compared) {
     let (conv, trans) = (sheet("convolution", "1,1,2", "1,1,1,2", 1), sheet("transposed", "1,1,2", "1,1,1,3", 2));
     let (conv, trans, pool) = (conv.as_bytes(), trans.as_bytes(), POOL.as_bytes());
     let (pair, bad, mut bad_input) = ([1.0; 2], [1.0, f32::NAN], rising());
-    bad_input[17] = f32::INFINITY;
+    (bad_input[5], bad_input[17]) = (f32::NAN, f32::INFINITY);
     let (mut sum, mut sums, mut values, mut indices) = ([7.0], [7.0; 5], [7.0; 8], [7; 8]);
 
     c.refused(convolution(conv, &pair, &pair, &mut sums), LENGTH);
     c.refused(convolution(conv, &pair, &[], &mut sum), LENGTH);
-    c.refused(convolution(conv, &pair, &bad, &mut sum), "number 9: an element above 2^40 in magnitude or NaN; at place 1 of the kernel");
-    c.refused(convolution(conv, &bad, &bad, &mut sum), "number 9: an element above 2^40 in magnitude or NaN; at place 1 of the input");
+    c.refused(convolution(conv, &pair, &bad, &mut sum), "number 9: an element above 2^40 in magnitude or NaN; the kernel has 1 bad element, at 1");
+    c.refused(convolution(conv, &bad, &[2e12; 2], &mut sum), "number 9: an element above 2^40 in magnitude or NaN; the input has 1 bad element, at 1");
     c.refused(convolution(&[], &[], &[], &mut []), FIRST_KEY);
     c.refused(transposed(trans, &[], &[1.0; 3], &mut sums), LENGTH);
-    c.refused(transposed(trans, &pair, &[1.0, 1.0, -2e12], &mut sums), "number 9: an element above 2^40 in magnitude or NaN; at place 2 of the kernel");
+    let three = [-2e12; 3];
+    c.refused(transposed(trans, &pair, &three, &mut sums), "number 9: an element above 2^40 in magnitude or NaN; the kernel has 3 bad elements, the first at 0");
     c.refused(transposed(conv, &pair, &pair, &mut sum), OPERATOR);
     c.refused(transposed(&[], &[], &[], &mut []), FIRST_KEY);
     c.refused(maxpool(pool, &rising(), &mut values, &mut []), LENGTH);
-    c.refused(maxpool(pool, &bad_input, &mut values, &mut indices), "number 9: an element above 2^40 in magnitude or NaN; at place 17 of the input");
+    let two = "number 9: an element above 2^40 in magnitude or NaN; the input has 2 bad elements, the first at 5";
+    c.refused(maxpool(pool, &bad_input, &mut values, &mut indices), two);
     c.refused(maxpool(trans, &pair, &mut values, &mut indices), OPERATOR);
     c.refused(maxpool(&[], &[], &mut [], &mut []), FIRST_KEY);
 
-    let fields = Error { number: 9, line: 0, tensor: Some(Tensor::Kernel), place: 1 };
+    let fields = Error { number: 9, line: 0, tensor: Some(Tensor::Kernel), place: 1, bad: 1 };
     c.same("the fields of a refusal", convolution(conv, &pair, &bad, &mut sum), Err(fields));
+    let fields = Error { number: 8, line: 0, tensor: None, place: 0, bad: 0 };
+    c.same("the fields of a refusal", convolution(conv, &bad, &bad, &mut sums), Err(fields));
     c.same("the buffers of refused operators", (sum, sums, values, indices), ([7.0], [7.0; 5], [7.0; 8], [7; 8]));
 }
 
@@ -206,7 +210,7 @@ fn check_refused_sheets(c: &mut Compared) {
     c.refused(edited("g=0,0", "g=0,1"), "number 23: the sheet: a line that its operator does not use is not at its default; at line 10");
     c.refused(lengths(b"op=pool\n"), "number 22: the sheet: an unknown word; at line 1");
     c.refused(lengths(&[]), FIRST_KEY);
-    c.same("the fields of a refusal", lengths(b"op=pool\n"), Err(Error { number: 22, line: 1, tensor: None, place: 0 }));
+    c.same("the fields of a refusal", lengths(b"op=pool\n"), Err(Error { number: 22, line: 1, tensor: None, place: 0, bad: 0 }));
 
     let mut buffer = [7; SHEET_MAX];
     c.refused(rewrite(POOL.as_bytes(), &mut buffer[..POOL.len() - 1]), "number 24: the buffer is shorter than the sheet");
@@ -225,7 +229,8 @@ fn check_refused_planes(c: &mut Compared) {
     c.refused(peak(&tensor, 0), LENGTH);
     c.refused(peak(&tensor, 3), LENGTH);
     c.refused(peak(&[], usize::MAX), LENGTH);
-    c.refused(peak(&tensor, 2), "number 9: an element above 2^40 in magnitude or NaN; at place 2 of the plane");
+    c.refused(peak(&tensor, 2), "number 9: an element above 2^40 in magnitude or NaN; the plane has 1 bad element, at 2");
+    c.refused(peak(&[f32::NAN; 6], 3), "number 9: an element above 2^40 in magnitude or NaN; the plane has 6 bad elements, the first at 0");
 }
 
 fn main() {
