@@ -278,7 +278,7 @@ static words lengths_words(koza_lengths_answer n, const char *memory) {
 }
 
 static words answer_words(koza_answer a, const char *memory) {
-    return say("number %u, line %u, tensor %u, place %zu; %s", a.number, a.line, a.tensor, a.place, memory);
+    return say("number %u, line %u, tensor %u, place %zu, bad %zu; %s", a.number, a.line, a.tensor, a.place, a.bad, memory);
 }
 
 static void call_shape(koza_shape_answer expected) {
@@ -606,7 +606,8 @@ static const struct {
     {"a NaN with all bits set", 0xFFFFFFFF, 1},
 };
 
-/* Where the elements are put: in the input and the kernel, first, last or none. The first bad one is told, of the input before the kernel. */
+/* Where the elements are put: in the input and the kernel, first, last or none. The first bad one is told, of the input before the kernel, and how many are
+ * bad in that tensor. */
 static void try_element(const layer *l, size_t e, int input_first, int input_last, int kernel_first, int kernel_last) {
     koza_lengths_answer n = lengths_of(l);
     element put[4], *end = put;
@@ -620,7 +621,8 @@ static void try_element(const layer *l, size_t e, int input_first, int input_las
         *end++ = (element){1, n.kernel - 1, ELEMENTS[e].bits};
     koza_answer expected = {.number = 0};
     if (ELEMENTS[e].bad && end > put)
-        expected = (koza_answer){.number = 9, .tensor = put[0].tensor, .place = put[0].place};
+        expected = (koza_answer){.number = 9, .tensor = put[0].tensor, .place = put[0].place,
+                                 .bad = put[0].tensor == 0 ? (size_t)(input_first + input_last) : (size_t)(kernel_first + kernel_last)};
     about = say("%s, axes %d, %s as input's first %d, last %d, kernel's first %d, last %d", OP_NAMES[l->op], l->axes, ELEMENTS[e].what, input_first,
                 input_last, kernel_first, kernel_last);
     call_operator(l->op, lend_all(l->op, n), put, (size_t)(end - put), expected);
@@ -633,6 +635,40 @@ static void try_elements(enum op op, int axes) {
     for (size_t e = 0; e < COUNT(ELEMENTS); e++)
         for (int where = 0; where < 16; where++)
             try_element(&l, e, where & 1, where >> 1 & 1, where >> 2 & 1, where >> 3 & 1);
+}
+
+/* So many bad elements at the end of each tensor. Those of the input are counted; those of the kernel where the input has none. */
+static void try_count(const layer *l, size_t of_input, size_t of_kernel) {
+    koza_lengths_answer n = lengths_of(l);
+    element put[512];
+    size_t puts = 0;
+    for (size_t k = 1; k <= of_input; k++)
+        put[puts++] = (element){0, n.input - k, QUIET_NAN};
+    for (size_t k = 1; k <= of_kernel; k++)
+        put[puts++] = (element){1, n.kernel - k, QUIET_NAN};
+    koza_answer expected = {.number = 0};
+    if (of_input > 0)
+        expected = (koza_answer){.number = 9, .tensor = 0, .place = n.input - of_input, .bad = of_input};
+    else if (of_kernel > 0)
+        expected = (koza_answer){.number = 9, .tensor = 1, .place = n.kernel - of_kernel, .bad = of_kernel};
+    about = say("%s, axes %d, the last %zu elements of the input bad, the last %zu of the kernel", OP_NAMES[l->op], l->axes, of_input, of_kernel);
+    call_operator(l->op, lend_all(l->op, n), put, puts, expected);
+}
+
+/* None to all of the input's elements bad, with a kernel of good ones and of bad ones; then the same of the kernel's. */
+static void try_counts(enum op op, int axes) {
+    char text[KOZA_SHEET_MAX * 2];
+    layer l = base(op, axes);
+    koza_lengths_answer n = lengths_of(&l);
+    set_sheet(text, write_layer(text, &l));
+    for (size_t bad = 0; bad <= n.input; bad++) {
+        try_count(&l, bad, 0);
+        try_count(&l, bad, n.kernel);
+    }
+    for (size_t bad = 0; bad <= n.kernel; bad++) {
+        try_count(&l, 0, bad);
+        try_count(&l, 1, bad);
+    }
 }
 
 /* ---- what accepted calls leave: document 01's bench cases with one axis, and the index of the first of two equal elements */
@@ -895,7 +931,10 @@ static const struct {
     {0, 0, {0}, {.number = 8}}, {0, 1, {0}, {.number = 8}}, {0, SIZE_MAX, {0}, {.number = 8}}, {2, 0, {0}, {.number = 8}},
     {5, 2, {0}, {.number = 8}}, {2, 3, {0}, {.number = 8}}, {2, SIZE_MAX, {0}, {.number = 8}}, {1, LARGEST + 2, {0}, {.number = 8}},
     {2, 3, {NAN, NAN}, {.number = 8}}, {2, 0, {NAN, NAN}, {.number = 8}},
-    {6, 3, {1, 0, NAN, 0, INFINITY, 0}, {.number = 9, .place = 2}},
+    {6, 3, {1, 0, NAN, 0, INFINITY, 0}, {.number = 9, .place = 2, .bad = 2}},
+    {6, 3, {0x1p41f, 0, -0x1p41f, 0x1p40f, 0, 0x1p41f}, {.number = 9, .place = 0, .bad = 3}},
+    {6, 2, {NAN, -INFINITY, 0x1p41f, -0x1p41f, INFINITY, -NAN}, {.number = 9, .place = 0, .bad = 6}},
+    {1, 1, {NAN}, {.number = 9, .place = 0, .bad = 1}},
 };
 
 static void call_peak(const float *elements, size_t len, size_t width, koza_peak_answer expected) {
@@ -904,9 +943,9 @@ static void call_peak(const float *elements, size_t len, size_t width, koza_peak
         memcpy(plane, elements, len * sizeof *plane);
     remember(INPUT);
     koza_peak_answer p = koza_peak(plane, len, width);
-    const char *format = "number %u, place %zu, value %a, row %zu, column %zu; %s";
-    compare("koza_peak", say(format, expected.number, expected.place, expected.value, expected.row, expected.column, "memory kept"),
-            say(format, p.number, p.place, p.value, p.row, p.column, kept(INPUT) ? "memory kept" : "plane changed"));
+    const char *format = "number %u, place %zu, bad %zu, value %a, row %zu, column %zu; %s";
+    compare("koza_peak", say(format, expected.number, expected.place, expected.bad, expected.value, expected.row, expected.column, "memory kept"),
+            say(format, p.number, p.place, p.bad, p.value, p.row, p.column, kept(INPUT) ? "memory kept" : "plane changed"));
 }
 
 static void try_peaks(void) {
@@ -920,7 +959,7 @@ static void try_peaks(void) {
             float plane[6] = {1, 1, 1, 1, 1, 1};
             memcpy(&plane[place], &ELEMENTS[e].bits, sizeof plane[place]);
             about = say("%s at place %zu of 6", ELEMENTS[e].what, place);
-            call_peak(plane, 6, 3, (koza_peak_answer){.number = 9, .place = place});
+            call_peak(plane, 6, 3, (koza_peak_answer){.number = 9, .place = place, .bad = 1});
         }
 }
 
@@ -1049,6 +1088,7 @@ static void try_operator(enum op op, int axes) {
     try_other_operators(op, axes);
     try_lengths(op, axes);
     try_elements(op, axes);
+    try_counts(op, axes);
     try_cut_sheets(op, axes);
 }
 

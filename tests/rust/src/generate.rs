@@ -286,19 +286,53 @@ fn element(r: &mut Random, kind: Kind) -> f32 {
     }
 }
 
-/// Elements of a tensor, seldom with a bad one.
-pub fn tensor(r: &mut Random, kind: Kind, len: usize) -> Vec<f32> {
-    let mut t: Vec<f32> = (0..len).map(|_| element(r, kind)).collect();
-    if len > 0 && r.chance(24) {
-        for _ in 0..r.range(1, 2) {
-            let at = r.range(0, len as u64 - 1) as usize;
-            t[at] = r.pick(&[
-                f32::NAN, -f32::NAN, f32::INFINITY, f32::NEG_INFINITY, f32::from_bits(LIMIT.to_bits() + 1), -f32::from_bits(LIMIT.to_bits() + 1), f32::MAX,
-                f32::from_bits(0x7F80_0001),
-            ]);
+fn bad_element(r: &mut Random) -> f32 {
+    r.pick(&[
+        f32::NAN, -f32::NAN, f32::INFINITY, f32::NEG_INFINITY, f32::from_bits(LIMIT.to_bits() + 1), -f32::from_bits(LIMIT.to_bits() + 1), f32::MAX,
+        f32::from_bits(0x7F80_0001),
+    ])
+}
+
+/// One element of a tensor becomes bad, or a few, or any number, or all.
+pub fn spoil_elements(r: &mut Random, t: &mut [f32]) {
+    let len = t.len() as u64;
+    match r.range(0, 3) {
+        _ if len == 0 => {}
+        0 => t.iter_mut().for_each(|v| *v = bad_element(r)),
+        several => {
+            let most = [1, 1, 4, len][several as usize];
+            for _ in 0..r.range(1, most) {
+                t[r.range(0, len - 1) as usize] = bad_element(r);
+            }
         }
     }
+}
+
+/// Elements of a tensor, seldom with bad ones.
+pub fn tensor(r: &mut Random, kind: Kind, len: usize) -> Vec<f32> {
+    let mut t: Vec<f32> = (0..len).map(|_| element(r, kind)).collect();
+    if r.chance(24) {
+        spoil_elements(r, &mut t);
+    }
     t
+}
+
+/// Layers with an input or a kernel of 16,777,216 elements and few products, or the same transposed, or pooled.
+pub fn largest() -> [Layer; 5] {
+    let along = |size, kernel, stride| Axis { size, kernel, stride, ..UNUSED };
+    let layer = |op, n, g, o, i, a: Axis| Layer {
+        op, axes: 2, n, c: g * i, g, o, i, y: a, x: a, auto_pad: AutoPad::Explicit, ceil: false, axis: 0,
+    };
+    // The transposed output of 64 by 64 keeps its first element alone.
+    let cut = Axis { end: 63, ..along(1, 64, 1) };
+    let pooled = Layer { c: 1024, ..layer(Op::MaxPool, 16, 1, 1, 1, along(32, 32, 1)) };
+    [
+        layer(Op::Convolution, 16, 1, 1, 1024, along(32, 2, 16)),
+        layer(Op::Convolution, 1, 4, 1024, 1, along(64, 64, 1)),
+        layer(Op::Transposed, 16, 1, 1, 1024, along(32, 1, 1)),
+        layer(Op::Transposed, 1, 4, 1024, 1, cut),
+        pooled,
+    ]
 }
 
 /// A length that is seldom wrong.

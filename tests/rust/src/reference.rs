@@ -46,17 +46,18 @@ pub struct Layer {
     pub axis: i64,
 }
 
-/// A number of the table, with the line (20 to 23), or the tensor and the place (9).
+/// A number of the table, with the line (20 to 23), or the tensor, its first bad place and the number of its bad elements (9).
 #[derive(Clone, Copy, Debug, PartialEq, Eq)]
 pub struct Refusal {
     pub number: u32,
     pub line: u32,
     pub tensor: u32,
     pub place: usize,
+    pub bad: usize,
 }
 
 pub fn refuse(number: u32) -> Refusal {
-    Refusal { number, line: 0, tensor: 0, place: 0 }
+    Refusal { number, line: 0, tensor: 0, place: 0, bad: 0 }
 }
 
 // ---- the sheet
@@ -385,9 +386,11 @@ fn bad(v: f32) -> bool {
     v.is_nan() || v.abs() > 1_099_511_627_776.0
 }
 
-fn elements(tensor: u32, t: &[f32]) -> Result<(), Refusal> {
+/// Check 9 of a tensor.
+pub fn elements(tensor: u32, t: &[f32]) -> Result<(), Refusal> {
+    let count = t.iter().filter(|v| bad(**v)).count();
     match t.iter().position(|v| bad(*v)) {
-        Some(place) => Err(Refusal { tensor, place, ..refuse(9) }),
+        Some(place) => Err(Refusal { tensor, place, bad: count, ..refuse(9) }),
         None => Ok(()),
     }
 }

@@ -15,6 +15,9 @@ const SEEN: [(u32, u64); 14] = [
 const ROWS: [u64; 3] = [40, 4, 3];
 const LONG_RUN: u64 = 150_000;
 
+/// The largest tensor.
+const LARGEST: usize = 16_777_216;
+
 #[derive(Default)]
 struct Counts {
     by_number: BTreeMap<u32, u64>,
@@ -26,8 +29,15 @@ struct Counts {
     rewritten: u64,
     planes_given: u64,
     planes_refused: u64,
+    largest: u64,
+    /// Tensors that were refused with 9, by what they are and how many of their elements are bad.
+    bad: BTreeMap<(&'static str, &'static str), u64>,
     failures: u64,
 }
+
+/// What is refused with 9, and with how many bad elements: each of them with each must be seen.
+const BAD: [&str; 4] = ["input", "kernel", "input before a bad kernel", "plane"];
+const HOW_MANY: [&str; 4] = ["one", "several", "all", "some of 16,777,216"];
 
 impl Counts {
     fn fail(&mut self, what: &str, sheet: &[u8], detail: String) {
@@ -35,6 +45,29 @@ impl Counts {
         if self.failures <= 5 {
             eprintln!("FAILED: {what}: {detail}\nsheet:\n{}", String::from_utf8_lossy(sheet));
         }
+    }
+
+    /// The tensor that a convolution is refused for, if its number is 9.
+    fn see_refused(&mut self, expected: &Answer, call: &Call) {
+        let [input, kernel, before_kernel, _] = BAD;
+        match expected.tensor {
+            _ if expected.number != 9 => {}
+            0 if reference::elements(1, &call.kernel).is_err() => self.see_bad(before_kernel, expected.bad, call.input.len().max(call.kernel.len())),
+            0 => self.see_bad(input, expected.bad, call.input.len()),
+            _ => self.see_bad(kernel, expected.bad, call.kernel.len()),
+        }
+    }
+
+    /// A tensor that was refused with 9.
+    fn see_bad(&mut self, what: &'static str, bad: usize, len: usize) {
+        let [one, several, all, large] = HOW_MANY;
+        let how_many = match bad {
+            _ if len == LARGEST => large,
+            1 => one,
+            _ if bad == len => all,
+            _ => several,
+        };
+        *self.bad.entry((what, how_many)).or_default() += 1;
     }
 
     /// The rows of an accepted call. With one tap a dilation means nothing, so such a kernel does not count.
@@ -51,10 +84,10 @@ fn bits(v: &[f32]) -> Vec<u32> {
 }
 
 fn answer_of(r: Refusal) -> Answer {
-    Answer { number: r.number, line: r.line, tensor: r.tensor, place: r.place }
+    Answer { number: r.number, line: r.line, tensor: r.tensor, place: r.place, bad: r.bad }
 }
 
-const DONE: Refusal = Refusal { number: 0, line: 0, tensor: 0, place: 0 };
+const DONE: Refusal = Refusal { number: 0, line: 0, tensor: 0, place: 0, bad: 0 };
 
 /// A sheet's layer and its shape, by checks 1 to 7 of its own operator.
 type Judged = Result<(Layer, Shape), Refusal>;
@@ -149,6 +182,7 @@ fn check_convolution(r: &mut Random, counts: &mut Counts, op: Op, call: &Call) -
         Err(e) => (answer_of(*e), bits(&before)),
         Ok((_, sums)) => (answer_of(DONE), sums.iter().map(|s| s.value.to_bits()).collect()),
     };
+    counts.see_refused(&expected, call);
     if got != expected || bits(&output) != after {
         counts.fail("convolution", call.sheet, format!("{op:?}: {got:?}, expected {expected:?}; output {output:?}"));
     }
@@ -175,6 +209,9 @@ fn check_maxpool(r: &mut Random, counts: &mut Counts, call: &Call, indices: usiz
         Err(e) => (answer_of(*e), bits(&before), places),
         Ok((v, p)) => (answer_of(DONE), bits(v), p.clone()),
     };
+    if expected.number == 9 {
+        counts.see_bad("input", expected.bad, call.input.len());
+    }
     if got != expected || bits(&values) != v || found != p {
         counts.fail("maxpool", call.sheet, format!("{got:?}, expected {expected:?}; values {values:?}, indices {found:?}"));
     }
@@ -186,15 +223,69 @@ fn check_peak(r: &mut Random, counts: &mut Counts) {
     let kind = generate::kind(r);
     let (width, height) = (r.range(0, 6) as usize, r.range(0, 6) as usize);
     let len = generate::length(r, (width * height) as u64);
-    let plane = generate::tensor(r, kind, len);
-    let got = answers::peak(&plane, width);
-    let expected = match reference::find_peak(&plane, width) {
-        Ok((v, row, column)) => (0, 0, v.to_bits(), row, column),
-        Err(e) => (e.number, e.place, 0, 0, 0),
+    peak_of(counts, &generate::tensor(r, kind, len), width);
+}
+
+fn peak_of(counts: &mut Counts, plane: &[f32], width: usize) {
+    let got = answers::peak(plane, width);
+    let expected = match reference::find_peak(plane, width) {
+        Ok((v, row, column)) => (0, 0, 0, v.to_bits(), row, column),
+        Err(e) => (e.number, e.place, e.bad, 0, 0, 0),
     };
     counts.peaks += 1;
-    if (got.number, got.place, got.value.to_bits(), got.row, got.column) != expected {
-        counts.fail("peak", b"", format!("{got:?} of {plane:?} with width {width}"));
+    if expected.0 == 9 {
+        counts.see_bad("plane", expected.2, plane.len());
+    }
+    if (got.number, got.place, got.bad, got.value.to_bits(), got.row, got.column) != expected {
+        let few = &plane[..plane.len().min(40)];
+        counts.fail("peak", b"", format!("{got:?} of {} elements {few:?} with width {width}", plane.len()));
+    }
+}
+
+/// Which elements of a large tensor are bad: none, the last, one in each thousand, or all.
+#[derive(Clone, Copy, PartialEq)]
+enum Bad {
+    No,
+    Last,
+    Few,
+    All,
+}
+
+/// Ones, with bad elements among them.
+fn ones(len: usize, bad: Bad) -> Vec<f32> {
+    let is_bad = |at: usize| match bad {
+        Bad::No => false,
+        Bad::Last => at + 1 == len,
+        Bad::Few => at % 1000 == 700,
+        Bad::All => true,
+    };
+    (0..len).map(|at| if is_bad(at) { f32::NAN } else { 1.0 }).collect()
+}
+
+/// The bad elements of input and kernel in each of the calls with a large tensor.
+const LARGE: [(Bad, Bad); 7] = [
+    (Bad::No, Bad::No), (Bad::Last, Bad::No), (Bad::Few, Bad::Few), (Bad::All, Bad::All), (Bad::No, Bad::Last), (Bad::No, Bad::Few), (Bad::No, Bad::All),
+];
+
+/// Calls with the largest tensors, good and bad ones.
+fn check_largest(r: &mut Random, counts: &mut Counts) {
+    for layer in generate::largest() {
+        let sheet = reference::show_sheet(&layer).into_bytes();
+        let shape = reference::judge(layer.op, &layer).expect("a layer at the limit");
+        let (inputs, weights, outputs) = (shape.inputs as usize, shape.weights as usize, shape.outputs as usize);
+        let call = |input, kernel| Call { sheet: &sheet, layer: Some(&layer), read: None, kind: Kind::Whole, input, kernel, outputs };
+        for (of_input, of_kernel) in LARGE {
+            match layer.op {
+                // Pooling has no kernel that could be bad alone.
+                Op::MaxPool if of_input == Bad::No && of_kernel != Bad::No => continue,
+                Op::MaxPool => check_maxpool(r, counts, &call(ones(inputs, of_input), Vec::new()), outputs),
+                op => check_convolution(r, counts, op, &call(ones(inputs, of_input), ones(weights, of_kernel))),
+            };
+            counts.largest += 1;
+        }
+    }
+    for bad in [Bad::No, Bad::Last, Bad::Few, Bad::All] {
+        peak_of(counts, &ones(LARGEST, bad), 4096);
     }
 }
 
@@ -258,7 +349,7 @@ fn call_operator(r: &mut Random, counts: &mut Counts, sheet: &[u8], read: &Resul
     let kind = generate::kind(r);
     let input_len = generate::length(r, inputs);
     let kernel_len = generate::length(r, weights);
-    let call = Call {
+    let mut call = Call {
         sheet,
         layer: read.as_ref().ok(),
         read: read.as_ref().err().copied(),
@@ -267,6 +358,10 @@ fn call_operator(r: &mut Random, counts: &mut Counts, sheet: &[u8], read: &Resul
         kernel: generate::tensor(r, kind, kernel_len),
         outputs: generate::length(r, outputs),
     };
+    if r.chance(100) {
+        generate::spoil_elements(r, &mut call.input);
+        generate::spoil_elements(r, &mut call.kernel);
+    }
     let number = match op {
         Op::MaxPool => {
             let indices = generate::length(r, outputs);
@@ -316,6 +411,21 @@ fn report_planes(counts: &Counts, made: u64) -> bool {
     true
 }
 
+/// Whether each tensor was refused with one, several and all elements bad, small and as large as can be, as in a long run it must be.
+fn report_bad(counts: &Counts, made: u64) -> bool {
+    let mut met = true;
+    for what in BAD {
+        let seen = HOW_MANY.map(|how_many| (how_many, counts.bad.get(&(what, how_many)).copied().unwrap_or(0)));
+        println!("refused with 9, {what}: {}", seen.map(|(how_many, n)| format!("{how_many} bad {n}")).join(", "));
+        met &= seen.iter().all(|(_, n)| *n > 0);
+    }
+    if made >= LONG_RUN && !met {
+        println!("some bad tensors were not met");
+        return false;
+    }
+    true
+}
+
 fn main() -> ExitCode {
     let args: Vec<u64> = std::env::args().skip(1).map(|a| a.parse().expect("numbers: CALLS SEED")).collect();
     let calls = args.first().copied().unwrap_or(100_000);
@@ -326,16 +436,19 @@ fn main() -> ExitCode {
         one_call(&mut r, &mut counts);
         made = counts.by_number.values().sum();
     }
-    println!("{made} calls, {} outputs, {} of them whole, {} in the exact case", counts.outputs, counts.whole, counts.exact);
+    check_largest(&mut r, &mut counts);
+    println!("{made} calls and {} with the largest tensors", counts.largest);
+    println!("{} outputs, {} of them whole, {} in the exact case", counts.outputs, counts.whole, counts.exact);
     print!("{} peaks, {} sheets written back, ", counts.peaks, counts.rewritten);
     println!("{} planes given, {} planes refused", counts.planes_given, counts.planes_refused);
     let numbers_seen = report_numbers(&counts, made);
     let rows_seen = report_rows(&counts, made);
     let planes_seen = report_planes(&counts, made);
+    let bad_seen = report_bad(&counts, made);
     if counts.failures > 0 {
         println!("{} comparisons FAILED", counts.failures);
     }
-    if !numbers_seen || !rows_seen || !planes_seen || counts.failures > 0 {
+    if !numbers_seen || !rows_seen || !planes_seen || !bad_seen || counts.failures > 0 {
         return ExitCode::FAILURE;
     }
     println!("all agree");
