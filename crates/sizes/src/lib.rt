@@ -14,7 +14,7 @@ use layer::step_ok;
 ghost use Prim.Native.Nat.{_^_, _+_, _-_, _*_, _/_, _≤_, _<_, min};
 ghost use mathlib.Core.Path.{_≡_};
 ghost use mathlib.Core.Bool.{true};
-ghost use Rattle.sizes.specs.Size.{ceilDiv, dilatedKernel, padded, explicitOut, validOut, sameOut, sameTotal, padsOf, windowOut, transposedOut, outOf, windowFits, axisFits};
+ghost use Rattle.sizes.specs.Size.{ceilDiv, dilatedKernel, padded, quotient, sameOut, sameTotal, padsOf, windowOut, transposedOut, outOf, windowFits, axisFits, roundingOf};
 ghost use Rattle.sizes.specs.Taps.{tapInside, someMissed, Exactly, stepsTo};
 ghost use Rattle.sizes.specs.Joins.{positionIn, positionBy, forward, backward, tapOn};
 ghost use Rattle.sizes.specs.Sizing.{axisDimensionsOk, padsOk, axisAttributesOk, modeOk, spanOf, sizing};
@@ -84,6 +84,16 @@ fn ceil_div(a: usize, b: usize) -> usize
     (a + (b - 1)) / b
 }
 
+fn quotient(rounding: Rounding, a: usize, b: usize) -> usize
+    requires { ⌜ (1 ≤ b) × (a + b < 2 ^ 64) ⌝ }
+    ensures { λ r. ⌜ r ≡ quotient rounding a b ⌝ }
+{
+    match rounding {
+        Rounding::Floor => a / b,
+        Rounding::Ceil => ceil_div(a, b),
+    }
+}
+
 // ---- the size rule, for any axis within its limits
 
 fn dilated_kernel(a: Axis) -> usize
@@ -139,22 +149,22 @@ fn pads_of(m: AutoPad, a: Axis) -> Pads
     }
 }
 
-fn padded_size(a: Axis) -> usize
-    ensures { λ r. ⌜ r ≡ padded a ⌝ }
+fn padded_size(m: AutoPad, a: Axis) -> usize
+    requires { ⌜ AxisLimits a ⌝ }
+    ensures { λ r. ⌜ r ≡ padded (padsOf m a) a ⌝ }
 {
-    a.input as usize + a.pad_begin as usize + a.pad_end as usize
+    let p = pads_of(m, a);
+    let begin = p.begin;
+    let end = p.end;
+    a.input as usize + begin + end
 }
 
+// Number 5 of convolution and pooling, for every mode: the kernel does not fit the padded axis.
 fn window_fits(m: AutoPad, a: Axis) -> bool
     requires { ⌜ AxisLimits a ⌝ }
     ensures { λ r. ⌜ r ≡ windowFits m a ⌝ }
 {
-    match m {
-        AutoPad::Explicit => dilated_kernel(a) <= padded_size(a),
-        AutoPad::SameUpper => true,
-        AutoPad::SameLower => true,
-        AutoPad::Valid => dilated_kernel(a) <= a.input as usize,
-    }
+    dilated_kernel(a) <= padded_size(m, a)
 }
 
 fn transposed_out(m: AutoPad, a: Axis) -> usize
@@ -182,36 +192,25 @@ fn axis_fits(op: Op, m: AutoPad, a: Axis) -> bool
     }
 }
 
-fn explicit_out(rounding: Rounding, a: Axis) -> usize
-    requires { ⌜ AxisLimits a × (dilatedKernel a ≤ padded a) ⌝ }
-    ensures { λ r. ⌜ r ≡ explicitOut rounding a ⌝ }
+// The rounding of a size: with a same mode it changes nothing, and floor gives the size.
+fn rounding_of(m: AutoPad, rounding: Rounding) -> Rounding
+    ensures { λ r. ⌜ r ≡ roundingOf m rounding ⌝ }
 {
-    let room = padded_size(a) - dilated_kernel(a);
-    let stride = a.stride as usize;
-    match rounding {
-        Rounding::Floor => room / stride + 1,
-        Rounding::Ceil => ceil_div(room, stride) + 1,
+    match m {
+        AutoPad::Explicit => rounding,
+        AutoPad::SameUpper => Rounding::Floor,
+        AutoPad::SameLower => Rounding::Floor,
+        AutoPad::Valid => rounding,
     }
 }
 
-fn valid_out(a: Axis) -> usize
-    requires { ⌜ AxisLimits a × (dilatedKernel a ≤ a .input) ⌝ }
-    ensures { λ r. ⌜ r ≡ validOut a ⌝ }
-{
-    ceil_div(a.input as usize - dilated_kernel(a) + 1, a.stride as usize)
-}
-
-// The output size of convolution and pooling.
+// The output size of convolution and pooling, for every mode: the explicit size with the pads of the mode.
 fn window_out(m: AutoPad, rounding: Rounding, a: Axis) -> usize
     requires { ⌜ AxisLimits a × (windowFits m a ≡ true) ⌝ }
     ensures { λ r. ⌜ r ≡ windowOut m rounding a ⌝ }
 {
-    match m {
-        AutoPad::Explicit => explicit_out(rounding, a),
-        AutoPad::SameUpper => same_out(a),
-        AutoPad::SameLower => same_out(a),
-        AutoPad::Valid => valid_out(a),
-    }
+    let room = padded_size(m, a) - dilated_kernel(a);
+    quotient(rounding_of(m, rounding), room, a.stride as usize) + 1
 }
 
 fn out_of(op: Op, m: AutoPad, rounding: Rounding, a: Axis) -> usize
