@@ -33,6 +33,7 @@ unfolding ceilDiv dilatedKernel validOut sameOut sameTotal transposedOut anyBelo
 bench =
     refl and refl and refl and refl and refl and refl and refl and refl
     and record { answer = refl; values = refl; indices = refl }
+    and record { answer = refl; values = refl; indices = refl }
     and record { answer = refl; contents = refl }
     and record {
       sums = record { answer = refl; contents = refl };

@@ -26,7 +26,7 @@ use Rattle.convolution.specs.Convolution as convolution
 use Rattle.transposed.specs.Transposed as transposed
 use Rattle.pooling.specs.Windows.{windowOf}
 use Rattle.bench.specs.Sizes.{SizeCase, sizeOf, sizeCases, along, oneAxis}
-use Rattle.bench.specs.Pools.{PoolCase, Computes, unwritten, example2, secondEmpty, bothOutside}
+use Rattle.bench.specs.Pools.{PoolCase, Computes, unwritten, example2, example5, secondEmpty, bothOutside}
 
 -- ---- a call of a convolution, of either kind
 
@@ -164,11 +164,12 @@ secondWindow = record { call = secondEmpty; size = 2; output = 1; taps = pos 3 �
 abbrev pub firstWindow : WindowCase
 firstWindow = record { call = bothOutside; size = 3; output = 0; taps = negsuc 7 ∷ pos 8 ∷ [] }
 
--- The sizes (with the number of each layer, 7 of the last two), 002 example 2, the sums, and the two calls that answer 7.
+-- The sizes (with the number of each layer, 7 of the last two), 002 examples 2 and 5, the sums, and the two calls that answer 7.
 abbrev pub benchCases : List Case
 benchCases =
     map size sizeCases
     ++ (pool example2
+    ∷ pool example5
     ∷ sum minusZero
     ∷ exact rounded
     ∷ sum spread

@@ -1,4 +1,4 @@
--- Document 01, "Bench cases": the cases (B) of max pooling, as calls over one axis and one plane.
+-- Document 01, "Bench cases": the cases (B) of max pooling, as calls over one plane.
 use mathlib.Core.Bool.{false}
 use mathlib.Core.Path.{_≡_}
 use mathlib.Core.List.{List, [], _∷_, map}
@@ -11,7 +11,7 @@ use Rattle.layer.specs.declared.Layer.{Layer}
 use Rattle.layer.specs.declared.Answer.{Answer}
 use Rattle.layer.specs.Answers.{numbered}
 use Rattle.pooling.specs.Call.{maxPoolAnswer, maxPoolValues, maxPoolIndices}
-use Rattle.bench.specs.Sizes.{along, oneAxis}
+use Rattle.bench.specs.Sizes.{along, oneAxis, twoAxes}
 
 -- What each element of a lent output is before the call of a case: 1/2, and the index -7. No call writes them in these cases, whose values are whole
 -- numbers and whose indices are not negative. So an accepted call that leaves an element unwritten shows, and so does a refused call that writes zeros.
@@ -53,6 +53,18 @@ example2 =
       answer = numbered 0;
       values = whole (pos 3 ∷ pos 5 ∷ pos 5 ∷ pos 9 ∷ pos 9 ∷ []);
       indices = pos 2 ∷ pos 3 ∷ pos 3 ∷ pos 5 ∷ pos 5 ∷ [];
+    }
+
+-- "002 example 5: values 5,3,8,9; indices 4,2,7,8" and "002 example 5 is followed: valid with ceil has its size": two windows an axis, the last one holding the
+-- last row or column alone.
+abbrev pub example5 : PoolCase
+example5 =
+    record {
+      layer = twoAxes MaxPool Valid Ceil (along 3 2 2 1 0) (along 3 2 2 1 0);
+      input = whole (negsuc 0 ∷ pos 2 ∷ pos 3 ∷ pos 4 ∷ pos 5 ∷ negsuc 5 ∷ negsuc 6 ∷ pos 8 ∷ pos 9 ∷ []);
+      answer = numbered 0;
+      values = whole (pos 5 ∷ pos 3 ∷ pos 8 ∷ pos 9 ∷ []);
+      indices = pos 4 ∷ pos 2 ∷ pos 7 ∷ pos 8 ∷ [];
     }
 
 -- "(B) Pool in 2, k 1, s 3, ceil, pads 0: out 2, second window empty, 7." The outputs are left as they were.

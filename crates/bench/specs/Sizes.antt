@@ -19,23 +19,29 @@ use Rattle.shape.specs.Judge.{judged}
 abbrev pub along : ℕ → ℕ → ℕ → ℕ → ℕ → Axis
 along size k s d pad = record { input = size; kernel = k; stride = s; dilation = d; «pad_begin» = pad; «pad_end» = pad; «output_padding» = 0 }
 
--- one image, one channel, one axis
-abbrev pub oneAxis : Op → AutoPad → Rounding → Axis → Layer
-oneAxis op m r a =
+-- one image, one channel
+abbrev onePlane : ℕ → Op → AutoPad → Rounding → Axis → Axis → Layer
+onePlane axes op m r y x =
     record {
       op = op;
-      axes = 1;
+      axes = axes;
       n = 1;
       c = 1;
       g = 1;
       o = 1;
       i = 1;
-      y = defaultAxis;
-      x = a;
+      y = y;
+      x = x;
       «auto_pad» = m;
       rounding = r;
       axis = pos 0;
     }
+
+abbrev pub oneAxis : Op → AutoPad → Rounding → Axis → Layer
+oneAxis op m r x = onePlane 1 op m r defaultAxis x
+
+abbrev pub twoAxes : Op → AutoPad → Rounding → Axis → Axis → Layer
+twoAxes op m r y x = onePlane 2 op m r y x
 
 -- a layer's number and its output size along X, 0 where it is refused
 abbrev pub numberAndSize : Judged → ℕ × ℕ
