@@ -119,7 +119,7 @@ unfoldable pub rewriteBuffer : Read → List ℕ → List ℕ
 rewriteBuffer (Sheet l) buffer = bufferAfter l buffer
 rewriteBuffer (Refused number line) buffer = buffer
 
--- ---- the version of the library, 1.2.0
+-- ---- the version of the library, 1.3.0
 
 abbrev pub version : ℕ
-version = 1 * 10000 + 2 * 100 + 0
+version = 1 * 10000 + 3 * 100 + 0
