@@ -248,10 +248,11 @@ static uint64_t size_along(const layer *l, int x) {
         return (in - 1) * s + k - pads + f[PY + x];
     if (is_same(l))
         return (in + s - 1) / s;
-    if (strcmp(l->auto_pad, "valid") == 0)
+    int ceil = l->op == MAXPOOL && strcmp(l->rounding, "ceil") == 0;
+    if (strcmp(l->auto_pad, "valid") == 0 && !ceil)
         return (in - k + 1 + s - 1) / s;
     uint64_t room = in + pads - k;
-    return (l->op == MAXPOOL && strcmp(l->rounding, "ceil") == 0 ? (room + s - 1) / s : room / s) + 1;
+    return (ceil ? (room + s - 1) / s : room / s) + 1;
 }
 
 static koza_shape_answer shape_of(const layer *l) {
@@ -519,6 +520,39 @@ static void try_axis(int axes) {
         }
 }
 
+/* Max pooling, valid: input, kernel, stride and dilation of one axis, and the number with floor and with ceil. */
+static const struct {
+    uint64_t in, k, s, d;
+    uint32_t number[2];
+} VALID[] = {
+    {4, 1, 4, 1, {0, 7}},       /* ceil: out 2, the second window starts at 4 */
+    {6, 3, 2, 1, {0, 0}},       /* ceil: out 3, the last window holds two elements */
+    {7, 2, 2, 3, {0, 0}},       /* ceil: out 3, the last window holds its first tap alone */
+    {5, 3, 2, 1, {0, 0}},       /* out 2 with either */
+    {2, 2, 16, 1, {0, 0}},      /* in = k': out 1 with either */
+    {2, 3, 1, 1, {5, 5}},       /* in < k' */
+    {3, 2, 1, 3, {5, 5}},
+    {4096, 64, 16, 16, {0, 0}}, /* ceil: out 194, the last window starts at 3,088 */
+    {4096, 1, 16, 1, {0, 7}},   /* ceil: out 257, the last window starts at 4,096 */
+};
+
+/* The pads of the sheet are not the defaults; valid looks at none. */
+static void try_valid(enum field along, int axes) {
+    for (size_t i = 0; i < COUNT(VALID); i++)
+        for (int ceil = 0; ceil < 2; ceil++) {
+            layer l = base(MAXPOOL, axes);
+            int y = along == Y;
+            l.auto_pad = "valid";
+            l.rounding = ceil ? "ceil" : "floor";
+            l.field[y ? Y : X] = VALID[i].in;
+            l.field[y ? KY : KX] = VALID[i].k;
+            l.field[y ? SY : SX] = VALID[i].s;
+            l.field[y ? DY : DX] = VALID[i].d;
+            about = say("maxpool, axes %d, valid, %s, %s: in %" PRIu64 ", k %" PRIu64 ", s %" PRIu64, axes, l.rounding, FIELD[along].name, VALID[i].in, VALID[i].k, VALID[i].s);
+            try_layer(&l, VALID[i].number[ceil]);
+        }
+}
+
 /* The operator that is called decides what is used: a sheet of another is 2, and 1 where a size that both use is outside. */
 static void try_other_operators(enum op of, int axes) {
     char text[KOZA_SHEET_MAX * 2];
@@ -671,26 +705,29 @@ static void try_counts(enum op op, int axes) {
     }
 }
 
-/* ---- what accepted calls leave: document 01's bench cases with one axis, and the index of the first of two equal elements */
+/* ---- what accepted calls leave: document 01's bench cases with one axis, the index of the first of two equal elements, a window past the input's end */
 
 static const struct {
     enum op op;
-    const char *auto_pad;
+    const char *auto_pad, *rounding;
     uint64_t x, kx, stride;
     float input[8], kernel[4], output[8];
     int64_t indices[8];
 } RESULTS[] = {
-    {TRANSPOSED, "explicit", 2, 3, 2, {1, 2}, {1, 1, 1}, {1, 1, 3, 2, 2}, {0}},
-    {CONVOLUTION, "explicit", 1, 1, 1, {-0.0f}, {1}, {0}, {0}},
-    {CONVOLUTION, "explicit", 2, 2, 1, {4096, 1}, {4096, 1}, {16777216}, {0}},
-    {MAXPOOL, "valid", 7, 3, 1, {-1, 2, 3, 5, -7, 9, 1}, {0}, {3, 5, 5, 9, 9}, {2, 3, 3, 5, 5}},
-    {MAXPOOL, "valid", 4, 2, 2, {-0.0f, 0, 0, -0.0f}, {0}, {-0.0f, 0}, {0, 2}},
+    {TRANSPOSED, "explicit", "floor", 2, 3, 2, {1, 2}, {1, 1, 1}, {1, 1, 3, 2, 2}, {0}},
+    {CONVOLUTION, "explicit", "floor", 1, 1, 1, {-0.0f}, {1}, {0}, {0}},
+    {CONVOLUTION, "explicit", "floor", 2, 2, 1, {4096, 1}, {4096, 1}, {16777216}, {0}},
+    {MAXPOOL, "valid", "floor", 7, 3, 1, {-1, 2, 3, 5, -7, 9, 1}, {0}, {3, 5, 5, 9, 9}, {2, 3, 3, 5, 5}},
+    {MAXPOOL, "valid", "floor", 4, 2, 2, {-0.0f, 0, 0, -0.0f}, {0}, {-0.0f, 0}, {0, 2}},
+    {MAXPOOL, "valid", "floor", 6, 3, 2, {3, -1, 2, 5, -4, -2}, {0}, {3, 5}, {0, 3}},
+    {MAXPOOL, "valid", "ceil", 6, 3, 2, {3, -1, 2, 5, -4, -2}, {0}, {3, 5, -2}, {0, 3, 5}},
 };
 
 static void try_result(size_t i) {
     char text[KOZA_SHEET_MAX * 2];
     layer l = plain(RESULTS[i].op, 1);
     l.auto_pad = RESULTS[i].auto_pad;
+    l.rounding = RESULTS[i].rounding;
     l.field[X] = RESULTS[i].x;
     l.field[KX] = RESULTS[i].kx;
     l.field[SX] = RESULTS[i].stride;
@@ -1107,6 +1144,9 @@ int main(void) {
     }
     try_axis(1);
     try_axis(2);
+    try_valid(X, 1);
+    try_valid(X, 2);
+    try_valid(Y, 2);
     try_combined();
     try_planes_of_outputs(CONVOLUTION);
     try_planes_of_outputs(TRANSPOSED);

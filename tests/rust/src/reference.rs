@@ -295,6 +295,7 @@ fn size(op: Op, mode: AutoPad, ceil: bool, a: &Axis) -> Option<Along> {
             if mode == AutoPad::SameUpper { (total / 2, total - total / 2) } else { (total - total / 2, total / 2) }
         }
     };
+    let ceil = ceil && op == Op::MaxPool;
     let out = if op == Op::Transposed {
         (n - 1) * s + k - begin - end + a.extra as i64
     } else {
@@ -304,13 +305,13 @@ fn size(op: Op, mode: AutoPad, ceil: bool, a: &Axis) -> Option<Along> {
                 if room < 0 {
                     return None;
                 }
-                if ceil && op == Op::MaxPool { ceil_div(room, s) + 1 } else { room / s + 1 }
+                if ceil { ceil_div(room, s) + 1 } else { room / s + 1 }
             }
             AutoPad::Valid => {
                 if n < k {
                     return None;
                 }
-                ceil_div(n - k + 1, s)
+                if ceil { ceil_div(n - k, s) + 1 } else { ceil_div(n - k + 1, s) }
             }
             _ => ceil_div(n, s),
         }

@@ -2,7 +2,7 @@
 //! usage: differential [CALLS] [SEED]      (100,000 calls and seed 1 by default)
 use kozamyure::answers::{self, Answer, LengthsAnswer, Part, ShapeAnswer, Written};
 use kozamyure_tests::generate::{self, Kind, Random};
-use kozamyure_tests::reference::{self, Layer, Op, Refusal, Shape, Sum};
+use kozamyure_tests::reference::{self, AutoPad, Layer, Op, Refusal, Shape, Sum};
 use std::collections::{BTreeMap, BTreeSet};
 use std::process::ExitCode;
 
@@ -32,8 +32,13 @@ struct Counts {
     largest: u64,
     /// Tensors that were refused with 9, by what they are and how many of their elements are bad.
     bad: BTreeMap<(&'static str, &'static str), u64>,
+    /// Calls of max pooling with valid and ceil, by what they are beside floor.
+    valid_ceil: BTreeMap<&'static str, u64>,
     failures: u64,
 }
+
+/// What valid with ceil is beside valid with floor: each must be seen.
+const VALID_CEIL: [&str; 4] = ["the same size", "a larger size", "7 in place of 0", "5 with both"];
 
 /// What is refused with 9, and with how many bad elements: each of them with each must be seen.
 const BAD: [&str; 4] = ["input", "kernel", "input before a bad kernel", "plane"];
@@ -68,6 +73,21 @@ impl Counts {
             _ => several,
         };
         *self.bad.entry((what, how_many)).or_default() += 1;
+    }
+
+    /// A layer of max pooling with valid and ceil; one that another number refuses does not count.
+    fn see_valid_ceil(&mut self, l: &Layer) {
+        let [same, larger, empty, unfit] = VALID_CEIL;
+        let floor = Layer { ceil: false, ..*l };
+        let outputs = |l: &Layer| reference::judge(Op::MaxPool, l).map(|s| s.outputs).map_err(|e| e.number);
+        let what = match (outputs(l), outputs(&floor)) {
+            (Ok(n), Ok(m)) if n == m => same,
+            (Ok(_), Ok(_)) => larger,
+            (Err(7), Ok(_)) => empty,
+            (Err(5), Err(5)) => unfit,
+            _ => return,
+        };
+        *self.valid_ceil.entry(what).or_default() += 1;
     }
 
     /// The rows of an accepted call. With one tap a dilation means nothing, so such a kernel does not count.
@@ -214,6 +234,9 @@ fn check_maxpool(r: &mut Random, counts: &mut Counts, call: &Call, indices: usiz
     }
     if got != expected || bits(&values) != v || found != p {
         counts.fail("maxpool", call.sheet, format!("{got:?}, expected {expected:?}; values {values:?}, indices {found:?}"));
+    }
+    if let Some(l) = call.layer.filter(|l| l.op == Op::MaxPool && l.auto_pad == AutoPad::Valid && l.ceil) {
+        counts.see_valid_ceil(l);
     }
     counts.outputs += result.map_or(0, |(v, _)| v.len() as u64);
     got.number
@@ -426,6 +449,17 @@ fn report_bad(counts: &Counts, made: u64) -> bool {
     true
 }
 
+/// Whether valid with ceil was met with all that it can be beside floor, as in a long run it must be.
+fn report_valid_ceil(counts: &Counts, made: u64) -> bool {
+    let seen = VALID_CEIL.map(|what| (what, counts.valid_ceil.get(what).copied().unwrap_or(0)));
+    println!("valid with ceil beside floor: {}", seen.map(|(what, n)| format!("{what} {n}")).join(", "));
+    if made >= LONG_RUN && seen.iter().any(|(_, n)| *n == 0) {
+        println!("some calls of valid with ceil were not met");
+        return false;
+    }
+    true
+}
+
 fn main() -> ExitCode {
     let args: Vec<u64> = std::env::args().skip(1).map(|a| a.parse().expect("numbers: CALLS SEED")).collect();
     let calls = args.first().copied().unwrap_or(100_000);
@@ -445,10 +479,11 @@ fn main() -> ExitCode {
     let rows_seen = report_rows(&counts, made);
     let planes_seen = report_planes(&counts, made);
     let bad_seen = report_bad(&counts, made);
+    let valid_ceil_seen = report_valid_ceil(&counts, made);
     if counts.failures > 0 {
         println!("{} comparisons FAILED", counts.failures);
     }
-    if !numbers_seen || !rows_seen || !planes_seen || !bad_seen || counts.failures > 0 {
+    if !numbers_seen || !rows_seen || !planes_seen || !bad_seen || !valid_ceil_seen || counts.failures > 0 {
         return ExitCode::FAILURE;
     }
     println!("all agree");
