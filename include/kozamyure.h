@@ -29,8 +29,8 @@ extern "C" {
 /* ---- versions */
 
 /* The version of this header. koza_version() tells that of the archive: a program that was compiled with another header finds out. */
-#define KOZA_VERSION_MAJOR 1
-#define KOZA_VERSION_MINOR 3
+#define KOZA_VERSION_MAJOR 2
+#define KOZA_VERSION_MINOR 0
 #define KOZA_VERSION_PATCH 0
 #define KOZA_VERSION (KOZA_VERSION_MAJOR * 10000 + KOZA_VERSION_MINOR * 100 + KOZA_VERSION_PATCH)
 
@@ -61,7 +61,7 @@ enum koza_number {
 static inline const char *koza_text(uint32_t number) {
     switch (number) {
     case KOZA_DONE: return "done: every output element is written";
-    case KOZA_DIMENSION: return "axes is not 1 or 2, or a dimension that the operator uses is outside its limit";
+    case KOZA_DIMENSION: return "axes is not 1, 2 or 3, or a dimension that the operator uses is outside its limit";
     case KOZA_ATTRIBUTE:
         return "an attribute outside its limit, a sheet of another operator, a same mode with transposed, axis outside its range, or an unused field not at its "
                "default";
@@ -90,9 +90,10 @@ typedef struct {
     size_t place, bad;
 } koza_answer;
 
-/* The output's sizes; zeros but for `number` and `line` where the call is refused. With one axis `y` is 1. */
+/* The output's sizes; zeros but for `number` and `line` where the call is refused. `z` is 1 where the sheet has fewer than three axes, and `y` where it has
+ * one. */
 typedef struct {
-    uint32_t number, line, axes, n, c, y, x;
+    uint32_t number, line, axes, n, c, z, y, x;
 } koza_shape_answer;
 
 /* The element counts of the buffers that a call takes; zeros but for `number` and `line` where it is refused. `kernel` is 0 for maxpool, whose values and
@@ -123,15 +124,17 @@ typedef struct {
 
 /* ---- the operators */
 
-/* Input [N, C, Y, X], kernel [G, O, I, KY, KX], output [N, G*O, OY, OX], all row-major. Numbers 0 to 9 and 20 to 23. */
+/* Tensors are row-major, as written here for three axes; with two axes every Z is left out, with one every Z and Y. */
+
+/* Input [N, C, Z, Y, X], kernel [G, O, I, KZ, KY, KX], output [N, G*O, OZ, OY, OX]. Numbers 0 to 9 and 20 to 23. */
 koza_answer koza_convolution(const uint8_t *sheet, size_t sheet_len, const float *input, size_t input_len, const float *kernel, size_t kernel_len,
                              float *output, size_t output_len);
 
-/* As koza_convolution, with the kernel [G, I, O, KY, KX]. */
+/* As koza_convolution, with the kernel [G, I, O, KZ, KY, KX]. */
 koza_answer koza_transposed(const uint8_t *sheet, size_t sheet_len, const float *input, size_t input_len, const float *kernel, size_t kernel_len,
                             float *output, size_t output_len);
 
-/* Input [N, C, Y, X]; values and indices [N, C, OY, OX]. */
+/* Input [N, C, Z, Y, X]; values and indices [N, C, OZ, OY, OX]. */
 koza_answer koza_maxpool(const uint8_t *sheet, size_t sheet_len, const float *input, size_t input_len, float *values, size_t values_len, int64_t *indices,
                          size_t indices_len);
 
@@ -150,10 +153,12 @@ koza_written koza_rewrite(const uint8_t *sheet, size_t sheet_len, uint8_t *buffe
 
 /* ---- planes */
 
-/* The plane of an image and a channel of the tensor [N, C, Y, X]: `length` elements from tensor + `start` on. It is refused where a size is outside its limit,
- * tensor_len is not N*C*Y*X, or image or channel is not below its count; so also for an output that has more than 1,024 channels or 4,096 rows or columns. No
- * element is looked at. */
-koza_part koza_plane(const float *tensor, size_t tensor_len, uint32_t n, uint32_t c, uint32_t y, uint32_t x, uint32_t image, uint32_t channel);
+/* The plane of rows and columns at an image, a channel and a depth of the tensor [N, C, Z, Y, X]: `length` elements from tensor + `start` on. Sizes of axes
+ * that the tensor lacks are 1, so its depth is 0. The plane is refused where a size is outside its limit, tensor_len is not N*C*Z*Y*X, or image, channel or
+ * depth is not below its count; so also for an output that has more than 1,024 channels or 4,096 depths, rows or columns. A tensor of more than 16,777,216
+ * elements is taken. No element is looked at. */
+koza_part koza_plane(const float *tensor, size_t tensor_len, uint32_t n, uint32_t c, uint32_t z, uint32_t y, uint32_t x, uint32_t image, uint32_t channel,
+                     uint32_t depth);
 
 /* The first largest element of a plane with rows of `width` elements. 8: width 0, no element, or a length that is no multiple of the width. 9: `bad` bad
  * elements, the first at `place`. */

@@ -62,10 +62,10 @@ static void *output_of(const layer *l, size_t element_bytes) {
     return output;
 }
 
-/* The plane of the first image and its first channel. */
+/* The plane of the first image, its first channel and its first depth. */
 static plane first_plane(const layer *l, const float *output) {
     koza_shape_answer s = l->shape;
-    koza_part part = koza_plane(output, l->lengths.output, s.n, s.c, s.y, s.x, 0, 0);
+    koza_part part = koza_plane(output, l->lengths.output, s.n, s.c, s.z, s.y, s.x, 0, 0, 0);
     if (part.length == 0)
         STOP(1, "%s: no plane can be taken from an output of %" PRIu32 " rows and %" PRIu32 " columns", l->path, s.y, s.x);
     return (plane){output + part.start, s.y, s.x};

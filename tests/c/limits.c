@@ -163,16 +163,17 @@ static const char *const OP_NAMES[OPS] = {"convolution", "transposed", "maxpool"
 static const char *const FUNCTIONS[OPS] = {"koza_convolution", "koza_transposed", "koza_maxpool"};
 static const char *const MODES[] = {"explicit", "same_upper", "same_lower", "valid"};
 
-/* The numbers of a sheet. From Y on each number of Y is followed by that of X. */
-enum field { NONE, N, C, G, O, I, Y, X, KY, KX, SY, SX, DY, DX, BY, BX, EY, EX, PY, PX, FIELDS };
+/* The numbers of a sheet. From Z on each number of Z is followed by those of Y and X. */
+enum field { NONE, N, C, G, O, I, Z, Y, X, KZ, KY, KX, SZ, SY, SX, DZ, DY, DX, BZ, BY, BX, EZ, EY, EX, PZ, PY, PX, FIELDS };
 static const struct {
     const char *name;
     uint32_t line;
 } FIELD[FIELDS] = {
-    [N] = {"N", 3}, [C] = {"C", 3}, [G] = {"G", 4}, [O] = {"O", 4}, [I] = {"I", 4}, [Y] = {"Y", 3}, [X] = {"X", 3}, [KY] = {"KY", 4},
-    [KX] = {"KX", 4}, [SY] = {"stride Y", 5}, [SX] = {"stride X", 5}, [DY] = {"dilation Y", 6}, [DX] = {"dilation X", 6},
-    [BY] = {"pad at Y's begin", 8}, [BX] = {"pad at X's begin", 8}, [EY] = {"pad at Y's end", 9}, [EX] = {"pad at X's end", 9}, [PY] = {"output padding Y", 10},
-    [PX] = {"output padding X", 10},
+    [N] = {"N", 3}, [C] = {"C", 3}, [G] = {"G", 4}, [O] = {"O", 4}, [I] = {"I", 4}, [Z] = {"Z", 3}, [Y] = {"Y", 3}, [X] = {"X", 3},
+    [KZ] = {"KZ", 4}, [KY] = {"KY", 4}, [KX] = {"KX", 4}, [SZ] = {"stride Z", 5}, [SY] = {"stride Y", 5}, [SX] = {"stride X", 5},
+    [DZ] = {"dilation Z", 6}, [DY] = {"dilation Y", 6}, [DX] = {"dilation X", 6}, [BZ] = {"pad at Z's begin", 8}, [BY] = {"pad at Y's begin", 8},
+    [BX] = {"pad at X's begin", 8}, [EZ] = {"pad at Z's end", 9}, [EY] = {"pad at Y's end", 9}, [EX] = {"pad at X's end", 9},
+    [PZ] = {"output padding Z", 10}, [PY] = {"output padding Y", 10}, [PX] = {"output padding X", 10},
 };
 
 typedef struct {
@@ -182,28 +183,32 @@ typedef struct {
     uint64_t field[FIELDS];
 } layer;
 
-/* Where the tests start from: every operator takes it. Its pads, one stride and one dilation are not the defaults. */
-static layer base(enum op op, int axes) {
-    layer l = {op, axes, 0, "explicit", "floor",
-               {[N] = 2, [C] = 4, [G] = 2, [O] = 3, [I] = 2, [Y] = 6, [X] = 7, [KY] = 3, [KX] = 2, [SY] = 2, [SX] = 1, [DY] = 1, [DX] = 2,
-                [BY] = 1, [BX] = 1, [EY] = 1, [EX] = 1}};
-    if (op == TRANSPOSED)
-        l.field[PY] = 1;
-    if (op == MAXPOOL)
-        l.field[G] = l.field[O] = l.field[I] = 1;
-    if (axes == 1) {
-        l.field[Y] = l.field[KY] = l.field[SY] = l.field[DY] = 1;
-        l.field[BY] = l.field[EY] = l.field[PY] = 0;
-    }
-    return l;
+/* The place of a field's axis in Z, Y, X; 2 for a field of no axis, which every number of axes has. */
+static int axis_of(enum field f) {
+    return f < Z ? 2 : (f - Z) % 3;
 }
 
 static int in_sheet(const layer *l, enum field f) {
-    return !(l->op == MAXPOOL && f >= G && f <= I) && !(l->axes == 1 && f >= Y && (f - Y) % 2 == 0);
+    return !(l->op == MAXPOOL && f >= G && f <= I) && axis_of(f) >= 3 - l->axes;
 }
 
 static int is_pad(enum field f) {
-    return f >= BY && f <= EX;
+    return f >= BZ && f <= EX;
+}
+
+/* Where the tests start from: every operator takes it. Its pads, two strides and two dilations are not the defaults. */
+static layer base(enum op op, int axes) {
+    layer l = {op, axes, 0, "explicit", "floor",
+               {[N] = 2, [C] = 4, [G] = 2, [O] = 3, [I] = 2, [Z] = 4, [Y] = 6, [X] = 7, [KZ] = 2, [KY] = 3, [KX] = 2, [SZ] = 3, [SY] = 2, [SX] = 1,
+                [DZ] = 2, [DY] = 1, [DX] = 2, [BZ] = 1, [BY] = 1, [BX] = 1, [EZ] = 1, [EY] = 1, [EX] = 1}};
+    if (op == TRANSPOSED)
+        l.field[PZ] = 2, l.field[PY] = 1;
+    if (op == MAXPOOL)
+        l.field[G] = l.field[O] = l.field[I] = 1;
+    for (int f = Z; f < FIELDS; f++)
+        if (!in_sheet(&l, (enum field)f))
+            l.field[f] = f < BZ; /* pads and output padding 0, all else 1 */
+    return l;
 }
 
 static int is_same(const layer *l) {
@@ -223,29 +228,30 @@ static int put_list(char *to, const layer *l, const char *key, const enum field 
 /* The layer's sheet, its length returned. */
 static size_t write_layer(char *to, const layer *l) {
     int n = sprintf(to, "op=%s\naxes=%d\n", OP_NAMES[l->op], l->axes);
-    LIST("input=", N, C, Y, X);
+    LIST("input=", N, C, Z, Y, X);
     if (l->op == TRANSPOSED)
-        LIST("kernel=", G, I, O, KY, KX);
+        LIST("kernel=", G, I, O, KZ, KY, KX);
     else
-        LIST("kernel=", G, O, I, KY, KX);
-    LIST("strides=", SY, SX);
-    LIST("dilations=", DY, DX);
+        LIST("kernel=", G, O, I, KZ, KY, KX);
+    LIST("strides=", SZ, SY, SX);
+    LIST("dilations=", DZ, DY, DX);
     n += sprintf(to + n, "auto_pad=%s\n", l->auto_pad);
-    LIST("pads_begin=", BY, BX);
-    LIST("pads_end=", EY, EX);
-    LIST("output_padding=", PY, PX);
+    LIST("pads_begin=", BZ, BY, BX);
+    LIST("pads_end=", EZ, EY, EX);
+    LIST("output_padding=", PZ, PY, PX);
     return (size_t)(n + sprintf(to + n, "rounding=%s\naxis=%d\n", l->rounding, l->axis));
 }
 
 /* ---- the sizes of an accepted layer, by document 01, "Sizes along one axis" */
 
-static uint64_t size_along(const layer *l, int x) {
-    const uint64_t *f = l->field;
-    uint64_t in = f[Y + x], s = f[SY + x], k = (f[KY + x] - 1) * f[DY + x] + 1, pads = f[BY + x] + f[EY + x];
+/* Along Z (0), Y (1) or X (2). */
+static uint64_t size_along(const layer *l, int axis) {
+    const uint64_t *f = l->field + axis;
+    uint64_t in = f[Z], s = f[SZ], k = (f[KZ] - 1) * f[DZ] + 1, pads = f[BZ] + f[EZ];
     if (strcmp(l->auto_pad, "explicit") != 0)
         pads = 0;
     if (l->op == TRANSPOSED)
-        return (in - 1) * s + k - pads + f[PY + x];
+        return (in - 1) * s + k - pads + f[PZ];
     if (is_same(l))
         return (in + s - 1) / s;
     int ceil = l->op == MAXPOOL && strcmp(l->rounding, "ceil") == 0;
@@ -257,21 +263,22 @@ static uint64_t size_along(const layer *l, int x) {
 
 static koza_shape_answer shape_of(const layer *l) {
     uint64_t channels = l->op == MAXPOOL ? l->field[C] : l->field[G] * l->field[O];
-    return (koza_shape_answer){.axes = (uint32_t)l->axes, .n = (uint32_t)l->field[N], .c = (uint32_t)channels, .y = (uint32_t)size_along(l, 0),
-                               .x = (uint32_t)size_along(l, 1)};
+    return (koza_shape_answer){.axes = (uint32_t)l->axes, .n = (uint32_t)l->field[N], .c = (uint32_t)channels, .z = (uint32_t)size_along(l, 0),
+                               .y = (uint32_t)size_along(l, 1), .x = (uint32_t)size_along(l, 2)};
 }
 
 static koza_lengths_answer lengths_of(const layer *l) {
     const uint64_t *f = l->field;
     koza_shape_answer s = shape_of(l);
-    return (koza_lengths_answer){.input = f[N] * f[C] * f[Y] * f[X], .kernel = l->op == MAXPOOL ? 0 : f[G] * f[O] * f[I] * f[KY] * f[KX],
-                                 .output = (size_t)s.n * s.c * s.y * s.x};
+    return (koza_lengths_answer){.input = f[N] * f[C] * f[Z] * f[Y] * f[X],
+                                 .kernel = l->op == MAXPOOL ? 0 : f[G] * f[O] * f[I] * f[KZ] * f[KY] * f[KX],
+                                 .output = (size_t)s.n * s.c * s.z * s.y * s.x};
 }
 
 /* ---- calls with the sheet at hand */
 
 static words shape_words(koza_shape_answer s, const char *memory) {
-    return say("number %u, line %u, axes %u, n %u, c %u, y %u, x %u; %s", s.number, s.line, s.axes, s.n, s.c, s.y, s.x, memory);
+    return say("number %u, line %u, axes %u, n %u, c %u, z %u, y %u, x %u; %s", s.number, s.line, s.axes, s.n, s.c, s.z, s.y, s.x, memory);
 }
 
 static words lengths_words(koza_lengths_answer n, const char *memory) {
@@ -360,7 +367,8 @@ static void try_refused_sheet(uint32_t number, uint32_t line) {
 /* ---- every number of a sheet at its limits */
 
 /* For each operator (convolution, transposed, maxpool): the number outside of least..limit, at least and at limit, where all else is as in base().
- * Its rows: convolution and maxpool P 8, k' 3; its columns: P 9, k' 3; transposed 10 + 3 - 2 + 1 rows, 6 + 3 - 2 columns. */
+ * Its depths: convolution and maxpool P 6, k' 3; its rows: P 8, k' 3; its columns: P 9, k' 3; transposed 9 + 3 - 2 + 2 depths, 10 + 3 - 2 + 1 rows,
+ * 6 + 3 - 2 columns. */
 static const struct {
     enum field field;
     uint64_t least, limit;
@@ -371,19 +379,26 @@ static const struct {
     {G, 1, 1024, {1, 1, 1}, {3, 3, 0}, {3, 3, 0}},
     {O, 1, 1024, {1, 1, 1}, {0, 0, 0}, {0, 0, 0}},
     {I, 1, 1024, {1, 1, 1}, {3, 3, 0}, {3, 3, 0}},
+    {Z, 1, 4096, {1, 1, 1}, {0, 0, 7}, {0, 0, 0}},   /* depths -1 and 1 of one: no element */
     {Y, 1, 4096, {1, 1, 1}, {0, 0, 0}, {0, 0, 0}},
     {X, 1, 4096, {1, 1, 1}, {0, 0, 7}, {0, 0, 0}},   /* columns -1 and 1 of one: no element */
+    {KZ, 1, 64, {1, 1, 1}, {0, 0, 7}, {5, 0, 5}},    /* depth -1 alone; k' 127 */
     {KY, 1, 64, {1, 1, 1}, {0, 0, 7}, {5, 0, 5}},    /* row -1 alone; k' 64 */
     {KX, 1, 64, {1, 1, 1}, {0, 0, 7}, {5, 0, 5}},    /* column -1 alone; k' 127 */
+    {SZ, 1, 16, {2, 2, 2}, {0, 0, 0}, {0, 0, 0}},
     {SY, 1, 16, {2, 2, 2}, {0, 0, 0}, {0, 0, 0}},
     {SX, 1, 16, {2, 2, 2}, {0, 0, 0}, {0, 0, 0}},
+    {DZ, 1, 16, {2, 2, 2}, {0, 0, 0}, {5, 0, 5}},    /* k' 17 */
     {DY, 1, 16, {2, 2, 2}, {0, 0, 0}, {5, 0, 5}},    /* k' 33 */
     {DX, 1, 16, {2, 2, 2}, {0, 0, 0}, {5, 0, 5}},    /* k' 17 */
-    {BY, 0, 1024, {2, 2, 2}, {0, 0, 0}, {0, 5, 7}},  /* transposed out < 1; windows before the input */
+    {BZ, 0, 1024, {2, 2, 2}, {0, 0, 0}, {0, 5, 7}},  /* transposed out < 1; windows before the input */
+    {BY, 0, 1024, {2, 2, 2}, {0, 0, 0}, {0, 5, 7}},
     {BX, 0, 1024, {2, 2, 2}, {0, 0, 0}, {0, 5, 7}},
+    {EZ, 0, 1024, {2, 2, 2}, {0, 0, 0}, {0, 5, 7}},
     {EY, 0, 1024, {2, 2, 2}, {0, 0, 0}, {0, 5, 7}},
     {EX, 0, 1024, {2, 2, 2}, {0, 0, 0}, {0, 5, 7}},
-    {PY, 0, 15, {23, 2, 23}, {0, 0, 0}, {23, 0, 23}}, /* transposed alone uses output padding */
+    {PZ, 0, 15, {23, 2, 23}, {0, 0, 0}, {23, 0, 23}}, /* transposed alone uses output padding */
+    {PY, 0, 15, {23, 2, 23}, {0, 0, 0}, {23, 0, 23}},
     {PX, 0, 15, {23, 2, 23}, {0, 0, 0}, {23, 0, 23}},
 };
 
@@ -430,13 +445,16 @@ typedef struct {
     uint64_t value;
 } setting;
 
-/* The lowest number that holds; counts at 16,777,216 = 2^24 and one more (97*257*673), some whose product is small modulo 2^32. */
+/* The lowest number that holds; counts at 16,777,216 = 2^24 and one more (97*257*673), some whose product is small modulo 2^32. A case that sets a number of
+ * Z has three axes, any other two. */
 static const struct {
     enum op op;
     uint32_t number;
-    setting set[13];
+    setting set[18];
 } COMBINED[] = {
 #define NO_PADS {BY, 0}, {BX, 0}, {EY, 0}, {EX, 0}
+#define NO_PADS_3 NO_PADS, {BZ, 0}, {EZ, 0}
+#define CUBES(size, kernel) {Z, size}, {Y, size}, {X, size}, {KZ, kernel}, {KY, kernel}, {KX, kernel}
     {CONVOLUTION, 1, {{N, 0}, {SY, 0}, {C, 5}}},
     {CONVOLUTION, 2, {{SY, 0}, {C, 5}}},
     {CONVOLUTION, 3, {{C, 5}, {I, 1024}}},                                           /* K 6,144 */
@@ -469,13 +487,53 @@ static const struct {
     {MAXPOOL, 6, {{N, 16}, {C, 1024}, {Y, 1}, {X, 1024}, {BX, 1024}}},               /* windows before the input: 7 */
     {MAXPOOL, 6, {{N, 1}, {C, 97}, {Y, 256}, {X, 672}, {KY, 2}, {SY, 1}, {DX, 1}}},  /* 2^24 + 1 outputs */
     {MAXPOOL, 0, {{N, 1}, {C, 1}, {Y, 4096}, {X, 4096}, {SY, 16}, {SX, 16}}},        /* 2^24 inputs */
+    {CONVOLUTION, 1, {{Z, 0}, {SZ, 0}, {C, 5}}},
+    {CONVOLUTION, 2, {{SZ, 0}, {C, 5}}},
+    {CONVOLUTION, 3, {{C, 5}, {I, 1024}, {KZ, 64}}},
+    {CONVOLUTION, 4, {{C, 1024}, {G, 1}, {I, 1024}, {Z, 1}, {BZ, 0}}},                 /* P 2 < k' 3 */
+    {CONVOLUTION, 5, {{Z, 1}, {BZ, 0}, {N, 16}, {O, 1024}, {X, 4096}}},                /* 3 * 2^27 outputs for each depth */
+    {CONVOLUTION, 0, {{C, 8}, {G, 1}, {I, 8}, {Z, 13}, {KZ, 8}, {KY, 8}, {KX, 8}, {DX, 1}}}, /* K 8^4 = 4,096 */
+    {CONVOLUTION, 4, {{C, 8}, {G, 1}, {I, 8}, {Z, 15}, {KZ, 9}, {KY, 8}, {KX, 8}, {DX, 1}}}, /* K 4,608 */
+    {CONVOLUTION, 0, {{C, 1}, {G, 1}, {I, 1}, {Z, 125}, {Y, 62}, {KZ, 64}, {KY, 64}, {KX, 1}}}, /* K 64 * 64 */
+    {CONVOLUTION, 4, {{C, 1}, {G, 1}, {I, 1}, {Z, 125}, {Y, 62}, {KZ, 64}, {KY, 64}, {KX, 2}}}, /* K 8,192 */
+    {CONVOLUTION, 4, {{C, 1}, {G, 1}, {I, 1}, CUBES(125, 64)}}, /* K 2^18 */
+    {CONVOLUTION, 4, {{N, 16}, {C, 1024}, {G, 1024}, {I, 1}, {Z, 4096}, {Y, 4096}, {X, 4096}}}, /* 2^50 inputs */
+    {CONVOLUTION, 4, {{N, 16}, {C, 1024}, {G, 1024}, {I, 1}, {Z, 4096}, {Y, 64}, {X, 1}}}, /* 2^32 inputs */
+    {CONVOLUTION, 4, {{N, 1}, {C, 97}, {G, 97}, {I, 1}, {Z, 257}, {Y, 673}, {X, 1}}},  /* 2^24 + 1 inputs */
+    {CONVOLUTION, 0, {{C, 4}, {G, 4}, {I, 1}, {O, 1024}, CUBES(16, 16), {DZ, 1}, {DX, 1}, NO_PADS_3}}, /* 2^24 weights */
+    {CONVOLUTION, 4, {{C, 5}, {G, 5}, {I, 1}, {O, 1024}, CUBES(16, 16), {DZ, 1}, {DX, 1}, NO_PADS_3}},
+    {CONVOLUTION, 6, {{N, 16}, {C, 1024}, {G, 1024}, {I, 1}, {O, 1024}, {Z, 256}, {Y, 1}, {X, 1}, {SZ, 1}}}, /* 2^32 outputs */
+    {TRANSPOSED, 1, {{Z, 0}, {SZ, 0}, {C, 5}}},
+    {TRANSPOSED, 2, {{SZ, 0}, {C, 5}}},
+    {TRANSPOSED, 3, {{C, 5}, {I, 1024}, {KZ, 64}}},
+    {TRANSPOSED, 4, {{C, 1024}, {G, 1}, {I, 1024}, {BZ, 1024}}},
+    {TRANSPOSED, 5, {{BZ, 1024}, {N, 16}, {O, 1024}, {X, 4096}}},
+    {TRANSPOSED, 5, {{Z, 1}, {EZ, 4}}},                                                /* 0 + 3 - 5 + 2 = 0 depths */
+    {TRANSPOSED, 0, {{Z, 1}, {EZ, 3}}},
+    {TRANSPOSED, 0, {{C, 8}, {G, 1}, {I, 8}, {KZ, 8}, {KY, 8}, {KX, 8}}},
+    {TRANSPOSED, 4, {{C, 8}, {G, 1}, {I, 8}, {KZ, 9}, {KY, 8}, {KX, 8}}},
+    {TRANSPOSED, 4, {{N, 1}, {C, 97}, {G, 97}, {I, 1}, {Z, 257}, {Y, 673}, {X, 1}}},
+    {TRANSPOSED, 6, {{N, 1}, {C, 1}, {G, 1}, {I, 1}, {Z, 4096}, {Y, 64}, {X, 64}}},    /* 3 channels of 12,288 depths of 128 by 64 */
+    {MAXPOOL, 1, {{Z, 0}, {SZ, 0}, {KX, 64}}},
+    {MAXPOOL, 2, {{SZ, 0}, {N, 16}, {C, 1024}, {Z, 4096}}},
+    {MAXPOOL, 4, {{N, 16}, {C, 1024}, {Z, 4096}, {KZ, 64}, {KY, 64}}},
+    {MAXPOOL, 4, {{N, 1}, {C, 97}, {Z, 257}, {Y, 673}, {X, 1}}},
+    {MAXPOOL, 5, {{N, 16}, {C, 1024}, {Z, 1}, {BZ, 0}, {Y, 1}, {X, 1024}, {BX, 1024}}},
+    {MAXPOOL, 6, {{N, 16}, {C, 1024}, {Z, 1}, {Y, 1}, {X, 1024}, {BX, 1024}}},         /* windows before the input: 7 */
+    {MAXPOOL, 6, {{N, 1}, {C, 97}, {Z, 256}, {Y, 672}, {X, 1}, {KY, 2}, {SZ, 1}, {SY, 1}, {DZ, 1}}}, /* 2^24 + 1 outputs */
+    {MAXPOOL, 0, {{N, 1}, {C, 1}, {Z, 4096}, {Y, 64}, {X, 64}, {SZ, 16}, {SY, 16}, {SX, 16}}}, /* 2^24 inputs */
+    {MAXPOOL, 0, {CUBES(62, 64), {DZ, 1}, {DX, 1}}}, /* 2^18 taps: K is of convolutions alone */
 };
 
 static void try_combined(void) {
     for (size_t i = 0; i < COUNT(COMBINED); i++) {
-        layer l = base(COMBINED[i].op, 2);
+        const setting *set = COMBINED[i].set, *end = set;
+        int axes = 2;
+        for (; end < set + COUNT(COMBINED[i].set) && end->field != NONE; end++)
+            axes = axis_of(end->field) == 0 ? 3 : axes;
+        layer l = base(COMBINED[i].op, axes);
         about = say("combined %zu", i);
-        for (const setting *s = COMBINED[i].set; s < COMBINED[i].set + COUNT(COMBINED[i].set) && s->field != NONE; s++)
+        for (const setting *s = set; s < end; s++)
             l.field[s->field] = s->value;
         try_layer(&l, COMBINED[i].number);
     }
@@ -489,26 +547,32 @@ static layer plain(enum op op, int axes) {
     return l;
 }
 
-/* One tap, no pads: each plane of the output has as many elements as the input. */
+/* One tap, no pads: each channel of the output has as many elements as the input. */
 static const struct {
     uint32_t number;
-    uint64_t planes, y, x;
-} PLANES[] = {{0, 1, 4096, 4096}, {0, 96, 257, 673}, {6, 97, 257, 673}, {6, 2, 4096, 4096}, {6, 1024, 4096, 1024}};
+    int axes;
+    uint64_t channels, z, y, x;
+} CHANNELS[] = {
+    {0, 2, 1, 1, 4096, 4096}, {0, 2, 96, 1, 257, 673}, {6, 2, 97, 1, 257, 673}, {6, 2, 2, 1, 4096, 4096}, {6, 2, 1024, 1, 4096, 1024},
+    {0, 3, 1, 256, 256, 256}, {0, 3, 96, 257, 673, 1}, {6, 3, 97, 257, 673, 1}, {6, 3, 2, 256, 256, 256}, {6, 3, 1024, 4096, 64, 16},
+};
 
-static void try_planes_of_outputs(enum op op) {
-    for (size_t i = 0; i < COUNT(PLANES); i++) {
-        layer l = plain(op, 2);
-        l.field[O] = PLANES[i].planes;
-        l.field[Y] = PLANES[i].y;
-        l.field[X] = PLANES[i].x;
-        about = say("%s, one tap, %" PRIu64 " planes of %" PRIu64 " by %" PRIu64, OP_NAMES[op], PLANES[i].planes, PLANES[i].y, PLANES[i].x);
-        try_layer(&l, PLANES[i].number);
+static void try_channels_of_outputs(enum op op) {
+    for (size_t i = 0; i < COUNT(CHANNELS); i++) {
+        layer l = plain(op, CHANNELS[i].axes);
+        l.field[O] = CHANNELS[i].channels;
+        l.field[Z] = CHANNELS[i].z;
+        l.field[Y] = CHANNELS[i].y;
+        l.field[X] = CHANNELS[i].x;
+        about = say("%s, one tap, %" PRIu64 " channels of %" PRIu64 " by %" PRIu64 " by %" PRIu64, OP_NAMES[op], CHANNELS[i].channels, CHANNELS[i].z,
+                    CHANNELS[i].y, CHANNELS[i].x);
+        try_layer(&l, CHANNELS[i].number);
     }
 }
 
 /* ---- words, the axis, another operator's sheet */
 
-/* Document 01: axis runs from -R to R - 1, R being 3 or 4; the layer that it belongs to is accepted otherwise. */
+/* Document 01: axis runs from -R to R - 1, R being the number of axes plus 2; the layer that it belongs to is accepted otherwise. */
 static void try_axis(int axes) {
     for (int axis = -9; axis <= 9; axis++)
         for (int ceil = 0; ceil < 2; ceil++) {
@@ -541,13 +605,13 @@ static void try_valid(enum field along, int axes) {
     for (size_t i = 0; i < COUNT(VALID); i++)
         for (int ceil = 0; ceil < 2; ceil++) {
             layer l = base(MAXPOOL, axes);
-            int y = along == Y;
+            uint64_t *f = l.field + axis_of(along);
             l.auto_pad = "valid";
             l.rounding = ceil ? "ceil" : "floor";
-            l.field[y ? Y : X] = VALID[i].in;
-            l.field[y ? KY : KX] = VALID[i].k;
-            l.field[y ? SY : SX] = VALID[i].s;
-            l.field[y ? DY : DX] = VALID[i].d;
+            f[Z] = VALID[i].in;
+            f[KZ] = VALID[i].k;
+            f[SZ] = VALID[i].s;
+            f[DZ] = VALID[i].d;
             about = say("maxpool, axes %d, valid, %s, %s: in %" PRIu64 ", k %" PRIu64 ", s %" PRIu64, axes, l.rounding, FIELD[along].name, VALID[i].in, VALID[i].k, VALID[i].s);
             try_layer(&l, VALID[i].number[ceil]);
         }
@@ -674,7 +738,7 @@ static void try_elements(enum op op, int axes) {
 /* So many bad elements at the end of each tensor. Those of the input are counted; those of the kernel where the input has none. */
 static void try_count(const layer *l, size_t of_input, size_t of_kernel) {
     koza_lengths_answer n = lengths_of(l);
-    element put[512];
+    element put[2048];
     size_t puts = 0;
     for (size_t k = 1; k <= of_input; k++)
         put[puts++] = (element){0, n.input - k, QUIET_NAN};
@@ -705,35 +769,50 @@ static void try_counts(enum op op, int axes) {
     }
 }
 
-/* ---- what accepted calls leave: document 01's bench cases with one axis, the index of the first of two equal elements, a window past the input's end */
+/* ---- what accepted calls leave: document 01's bench cases with one axis, the index of the first of two equal elements, a window past the input's end; with
+ * three axes the order of taps, in sums that round otherwise in another order, and in windows */
 
+/* Input and kernel have their sizes by Z, Y, X; the stride is that of each axis. */
 static const struct {
     enum op op;
     const char *auto_pad, *rounding;
-    uint64_t x, kx, stride;
-    float input[8], kernel[4], output[8];
+    int axes;
+    uint64_t in[3], k[3], stride;
+    float input[8], kernel[8], output[8];
     int64_t indices[8];
 } RESULTS[] = {
-    {TRANSPOSED, "explicit", "floor", 2, 3, 2, {1, 2}, {1, 1, 1}, {1, 1, 3, 2, 2}, {0}},
-    {CONVOLUTION, "explicit", "floor", 1, 1, 1, {-0.0f}, {1}, {0}, {0}},
-    {CONVOLUTION, "explicit", "floor", 2, 2, 1, {4096, 1}, {4096, 1}, {16777216}, {0}},
-    {MAXPOOL, "valid", "floor", 7, 3, 1, {-1, 2, 3, 5, -7, 9, 1}, {0}, {3, 5, 5, 9, 9}, {2, 3, 3, 5, 5}},
-    {MAXPOOL, "valid", "floor", 4, 2, 2, {-0.0f, 0, 0, -0.0f}, {0}, {-0.0f, 0}, {0, 2}},
-    {MAXPOOL, "valid", "floor", 6, 3, 2, {3, -1, 2, 5, -4, -2}, {0}, {3, 5}, {0, 3}},
-    {MAXPOOL, "valid", "ceil", 6, 3, 2, {3, -1, 2, 5, -4, -2}, {0}, {3, 5, -2}, {0, 3, 5}},
+#define ONES {1, 1, 1, 1, 1, 1, 1, 1}
+    {TRANSPOSED, "explicit", "floor", 1, {1, 1, 2}, {1, 1, 3}, 2, {1, 2}, {1, 1, 1}, {1, 1, 3, 2, 2}, {0}},
+    {CONVOLUTION, "explicit", "floor", 1, {1, 1, 1}, {1, 1, 1}, 1, {-0.0f}, {1}, {0}, {0}},
+    {CONVOLUTION, "explicit", "floor", 1, {1, 1, 2}, {1, 1, 2}, 1, {4096, 1}, {4096, 1}, {16777216}, {0}},
+    {MAXPOOL, "valid", "floor", 1, {1, 1, 7}, {1, 1, 3}, 1, {-1, 2, 3, 5, -7, 9, 1}, {0}, {3, 5, 5, 9, 9}, {2, 3, 3, 5, 5}},
+    {MAXPOOL, "valid", "floor", 1, {1, 1, 4}, {1, 1, 2}, 2, {-0.0f, 0, 0, -0.0f}, {0}, {-0.0f, 0}, {0, 2}},
+    {MAXPOOL, "valid", "floor", 1, {1, 1, 6}, {1, 1, 3}, 2, {3, -1, 2, 5, -4, -2}, {0}, {3, 5}, {0, 3}},
+    {MAXPOOL, "valid", "ceil", 1, {1, 1, 6}, {1, 1, 3}, 2, {3, -1, 2, 5, -4, -2}, {0}, {3, 5, -2}, {0, 3, 5}},
+    {CONVOLUTION, "explicit", "floor", 3, {2, 2, 2}, {2, 2, 2}, 1, {0x1p24f, -0x1p24f, 1, 0, 1, 0, 1, 0}, ONES, {3}, {0}}, /* 0 or 2 unless kx rises fastest */
+    {CONVOLUTION, "explicit", "floor", 3, {2, 2, 2}, {2, 2, 2}, 1, {0x1p24f, 0, -0x1p24f, 0, 1, 1, 0, 0}, ONES, {2}, {0}}, /* 0 if ky rises slowest */
+    {CONVOLUTION, "explicit", "floor", 3, {3, 1, 2}, {2, 1, 1}, 1, {1, 2, 3, 4, 5, 6}, {1, 10}, {31, 42, 53, 64}, {0}},
+    {TRANSPOSED, "explicit", "floor", 3, {2, 1, 1}, {2, 1, 1}, 1, {1, 2}, {3, 4}, {3, 10, 8}, {0}},
+    {TRANSPOSED, "explicit", "floor", 3, {2, 1, 1}, {1, 1, 2}, 2, {5, 7}, {1, 2}, {5, 10, 0, 0, 7, 14}, {0}}, /* no tap reaches depth 1 */
+    {MAXPOOL, "valid", "floor", 3, {2, 2, 2}, {2, 2, 2}, 1, {1, 5, 5, 2, 5, 0, 0, 0}, {0}, {5}, {1}},
+    {MAXPOOL, "valid", "floor", 3, {2, 2, 2}, {2, 2, 2}, 1, {0, 0, 5, 0, 5, 0, 0, 0}, {0}, {5}, {2}},
+    {MAXPOOL, "valid", "floor", 3, {2, 1, 2}, {2, 1, 1}, 1, {-1, -4, -3, -2}, {0}, {-1, -2}, {0, 3}},
+    {MAXPOOL, "valid", "ceil", 3, {3, 1, 1}, {2, 1, 1}, 2, {4, -1, -3}, {0}, {4, -3}, {0, 2}}, /* the last window holds depth 2 alone */
 };
 
 static void try_result(size_t i) {
     char text[KOZA_SHEET_MAX * 2];
-    layer l = plain(RESULTS[i].op, 1);
+    layer l = plain(RESULTS[i].op, RESULTS[i].axes);
     l.auto_pad = RESULTS[i].auto_pad;
     l.rounding = RESULTS[i].rounding;
-    l.field[X] = RESULTS[i].x;
-    l.field[KX] = RESULTS[i].kx;
-    l.field[SX] = RESULTS[i].stride;
+    for (int axis = 3 - l.axes; axis < 3; axis++) {
+        l.field[Z + axis] = RESULTS[i].in[axis];
+        l.field[KZ + axis] = RESULTS[i].k[axis];
+        l.field[SZ + axis] = RESULTS[i].stride;
+    }
     set_sheet(text, write_layer(text, &l));
     about = say("result %zu", i);
-    element put[12];
+    element put[16];
     size_t inputs = lengths_of(&l).input, kernels = lengths_of(&l).kernel, outputs = lengths_of(&l).output;
     for (size_t k = 0; k < inputs + kernels; k++) {
         put[k] = (element){k >= inputs, k < inputs ? k : k - inputs, 0};
@@ -748,14 +827,17 @@ static void try_result(size_t i) {
 
 /* ---- sheets that the reader refuses */
 
-/* The number and its line; the line of the sheet of base(op, 2) that each text takes the place of: 13 is what follows the sheet, 0 the whole of it.
+/* The number and its line; the line of the sheet of base(op, axes) that each text takes the place of: 13 is what follows the sheet, 0 the whole of it.
  * '@' stands for the byte 0. */
-static const struct {
+typedef struct {
     uint32_t number, at;
     enum op op;
     uint32_t line;
     const char *texts[20];
-} SHEETS[] = {
+} edited;
+
+/* Two axes. */
+static const edited SHEETS[] = {
     {20, 1, MAXPOOL, 0, {"", "\n", "@", "op=maxpool"}},
     {20, 2, MAXPOOL, 0, {"op=maxpool\n", "op=maxpool\n\n"}},
     {20, 1, MAXPOOL, 1, {"Op=maxpool", " op=maxpool", "op =maxpool", "op", "", "=maxpool", "\xEF\xBB\xBFop=maxpool"}},
@@ -764,8 +846,9 @@ static const struct {
     {22, 1, MAXPOOL, 1, {"op=pool\naxes=9"}}, /* the first bad line */
     {21, 2, MAXPOOL, 1, {"op=maxpool\naxes=9\ninput=x"}},
     {20, 2, MAXPOOL, 2, {"axis=2", "axes:2", "Axes=2", ""}},
-    {21, 2, MAXPOOL, 2, {"axes=0", "axes=3", "axes=4294967295", "axes=4294967298", "axes=02", "axes=+2", "axes=-2", "axes=", "axes=2 ", "axes= 2",
+    {21, 2, MAXPOOL, 2, {"axes=0", "axes=4", "axes=4294967295", "axes=4294967298", "axes=02", "axes=+2", "axes=-2", "axes=", "axes=2 ", "axes= 2",
                          "axes=2\r", "axes=2@", "axes=2,", "axes=2,2", "axes=two"}},
+    {21, 3, MAXPOOL, 2, {"axes=1", "axes=3"}}, /* the lists are those of two axes */
     {20, 3, MAXPOOL, 3, {"inputs=1,2,3,3", "input:1,2,3,3"}},
     {21, 3, MAXPOOL, 3, {"input=1,2,3", "input=1,2,3,3,1", "input=1,2,3,3,", "input=,1,2,3", "input=1,,3,3", "input=1,2,3,03", "input=00,2,3,3",
                          "input=", "input=1,2,3,3 ", "input=1, 2,3,3", "input=1;2;3;3", "input=-1,2,3,3", "input=1,2,3,3\r", "input=1,2,3,3.0",
@@ -781,10 +864,10 @@ static const struct {
     {20, 7, MAXPOOL, 7, {"auto-pad=valid", "pads_begin=0,0"}},
     {22, 7, MAXPOOL, 7, {"auto_pad=", "auto_pad=EXPLICIT", "auto_pad=same", "auto_pad=0", "auto_pad=explicit\r", "auto_pad=valid ", "auto_pad=notset"}},
     {20, 8, MAXPOOL, 8, {"pads_end=0,0", "pads=0,0"}},
-    {21, 8, MAXPOOL, 8, {"pads_begin=", "pads_begin=0", "pads_begin=0,-1"}},
+    {21, 8, MAXPOOL, 8, {"pads_begin=", "pads_begin=0", "pads_begin=0,-1", "pads_begin=0,0,0"}},
     {20, 9, MAXPOOL, 9, {"pads_begin=0,0"}},
     {21, 9, MAXPOOL, 9, {"pads_end=0", "pads_end=0,-0", "pads_end=0,0,0"}},
-    {21, 10, MAXPOOL, 10, {"output_padding=0", "output_padding=x,1"}},
+    {21, 10, MAXPOOL, 10, {"output_padding=0", "output_padding=x,1", "output_padding=0,0,0"}},
     {23, 10, MAXPOOL, 10, {"output_padding=1,0", "output_padding=0,1"}},
     {21, 10, CONVOLUTION, 10, {"output_padding=1,4294967296", "output_padding=1"}}, /* before 23 */
     {23, 10, CONVOLUTION, 10, {"output_padding=0,15", "output_padding=4294967295,0"}},
@@ -803,10 +886,32 @@ static const struct {
     {20, 13, TRANSPOSED, 13, {"\n", "op=transposed\n"}},
 };
 
-/* The sheet of base(op, 2) with one line replaced. */
-static size_t edit_sheet(char *to, enum op op, uint32_t line, const char *by) {
+/* Three axes: mostly lists of another length. */
+static const edited SHEETS_3[] = {
+    {21, 2, MAXPOOL, 2, {"axes=0", "axes=4", "axes=03", "axes=3 ", "axes=3,", "axes=3,3", "axes=-3"}},
+    {21, 3, MAXPOOL, 2, {"axes=1", "axes=2"}},
+    {21, 3, MAXPOOL, 3, {"input=1,2,3,3", "input=1,2,3,3,3,3", "input=1,2,3", "input=1,2,3,3,", "input=,1,2,3,3", "input=1,2,,3,3", "input=1,2,03,3,3",
+                         "input=1,2,-3,3,3", "input=1,2,4294967296,3,3"}},
+    {21, 4, MAXPOOL, 4, {"kernel=2", "kernel=2,2", "kernel=2,2,2,2", "kernel=1,1,1,2,2,2"}},
+    {21, 4, CONVOLUTION, 4, {"kernel=2,2,2", "kernel=2,2,2,2,2", "kernel=2,2,2,2,2,2,2"}},
+    {21, 4, TRANSPOSED, 4, {"kernel=2,2,2", "kernel=2,2,2,2,2", "kernel=2,2,2,2,2,2,2"}},
+    {21, 5, MAXPOOL, 5, {"strides=1", "strides=1,1", "strides=1,1,1,1"}},
+    {21, 6, MAXPOOL, 6, {"dilations=1", "dilations=1,1", "dilations=1,1,1,1"}},
+    {21, 8, MAXPOOL, 8, {"pads_begin=0", "pads_begin=0,0", "pads_begin=0,0,0,0"}},
+    {21, 9, MAXPOOL, 9, {"pads_end=0", "pads_end=0,0", "pads_end=0,0,0,0"}},
+    {21, 10, MAXPOOL, 10, {"output_padding=0,0", "output_padding=0,0,0,0"}},
+    {23, 10, MAXPOOL, 10, {"output_padding=1,0,0", "output_padding=0,1,0", "output_padding=0,0,1"}},
+    {21, 10, CONVOLUTION, 10, {"output_padding=1,0", "output_padding=1,0,4294967296"}}, /* before 23 */
+    {23, 10, CONVOLUTION, 10, {"output_padding=15,0,0", "output_padding=0,0,4294967295"}},
+    {21, 10, TRANSPOSED, 10, {"output_padding=1,1", "output_padding=1,1,1,1"}},
+    {23, 12, CONVOLUTION, 12, {"axis=4", "axis=-5"}},
+    {20, 13, MAXPOOL, 13, {"\n"}},
+};
+
+/* The sheet of base(op, axes) with one line replaced. */
+static size_t edit_sheet(char *to, enum op op, int axes, uint32_t line, const char *by) {
     char text[KOZA_SHEET_MAX * 2];
-    layer l = base(op, 2);
+    layer l = base(op, axes);
     text[write_layer(text, &l)] = 0;
     size_t n = line == 0 ? (size_t)sprintf(to, "%s", by) : 0;
     uint32_t at = 1;
@@ -819,13 +924,13 @@ static size_t edit_sheet(char *to, enum op op, uint32_t line, const char *by) {
     return n;
 }
 
-static void try_sheets(void) {
+static void try_sheets(const edited *sheets, size_t count, int axes) {
     char text[KOZA_SHEET_MAX * 2];
-    for (size_t i = 0; i < COUNT(SHEETS); i++)
-        for (const char *const *by = SHEETS[i].texts; *by; by++) {
-            about = say("%s, another line %u", OP_NAMES[SHEETS[i].op], SHEETS[i].line);
-            set_sheet(text, edit_sheet(text, SHEETS[i].op, SHEETS[i].line, *by));
-            try_refused_sheet(SHEETS[i].number, SHEETS[i].at);
+    for (const edited *s = sheets; s < sheets + count; s++)
+        for (const char *const *by = s->texts; *by; by++) {
+            about = say("%s, axes %d, another line %u", OP_NAMES[s->op], axes, s->line);
+            set_sheet(text, edit_sheet(text, s->op, axes, s->line, *by));
+            try_refused_sheet(s->number, s->at);
         }
 }
 
@@ -888,11 +993,11 @@ static void try_rewrites(const layer *l) {
         try_rewrite(rooms[i]);
 }
 
-/* The longest sheet that the reader takes: every number 4,294,967,295 except where a default is asked for. */
+/* The longest sheet that the reader takes: three axes, every number 4,294,967,295 except where a default is asked for. */
 static void try_longest(enum op op) {
-    layer l = base(op, 2);
+    layer l = base(op, 3);
     for (int f = N; f < FIELDS; f++)
-        l.field[f] = op != TRANSPOSED && (f == PY || f == PX) ? 0 : LARGEST;
+        l.field[f] = op != TRANSPOSED && f >= PZ ? 0 : LARGEST;
     l.auto_pad = "same_upper";
     l.axis = op == MAXPOOL ? -9 : 0;
     try_rewrites(&l);
@@ -908,27 +1013,46 @@ static void try_longest(enum op op) {
 /* The tensor's memory may not even be read: no element is looked at. */
 static const struct {
     uint64_t len;
-    uint32_t n, c, y, x, image, channel;
+    uint32_t sizes[5], at[3]; /* N, C, Z, Y and X; image, channel and depth */
     size_t start, length;
 } PICKED[] = {
-    {120, 2, 3, 4, 5, 0, 0, 0, 20}, {120, 2, 3, 4, 5, 0, 2, 40, 20}, {120, 2, 3, 4, 5, 1, 0, 60, 20}, {120, 2, 3, 4, 5, 1, 2, 100, 20},
-    {120, 2, 3, 4, 5, 2, 0, 0, 0}, {120, 2, 3, 4, 5, 0, 3, 0, 0}, {120, 2, 3, 4, 5, LARGEST, 0, 0, 0}, {120, 2, 3, 4, 5, 0, LARGEST, 0, 0},
-    {119, 2, 3, 4, 5, 0, 0, 0, 0}, {121, 2, 3, 4, 5, 0, 0, 0, 0}, {0, 2, 3, 4, 5, 0, 0, 0, 0}, {LARGEST + 121, 2, 3, 4, 5, 0, 0, 0, 0},
-    {0, 0, 3, 4, 5, 0, 0, 0, 0}, {0, 2, 0, 4, 5, 0, 0, 0, 0}, {0, 2, 3, 0, 5, 0, 0, 0, 0}, {0, 2, 3, 4, 0, 0, 0, 0, 0}, {0, 0, 0, 0, 0, 0, 0, 0, 0},
-    {1, 1, 1, 1, 1, 0, 0, 0, 1}, {16, 16, 1, 1, 1, 15, 0, 15, 1}, {1024, 1, 1024, 1, 1, 0, 1023, 1023, 1}, {4096, 1, 1, 4096, 1, 0, 0, 0, 4096},
-    {4096, 1, 1, 1, 4096, 0, 0, 0, 4096}, {16, 16, 1, 1, 1, 16, 0, 0, 0}, {1024, 1, 1024, 1, 1, 0, 1024, 0, 0},
-    {17, 17, 1, 1, 1, 0, 0, 0, 0}, {1025, 1, 1025, 1, 1, 0, 0, 0, 0}, {4097, 1, 1, 4097, 1, 0, 0, 0, 0}, {4097, 1, 1, 1, 4097, 0, 0, 0, 0},
-    {LARGEST, LARGEST, 1, 1, 1, 0, 0, 0, 0}, {LARGEST, 1, LARGEST, 1, 1, 0, 0, 0, 0}, {LARGEST, 1, 1, LARGEST, 1, 0, 0, 0, 0},
-    {LARGEST, 1, 1, 1, LARGEST, 0, 0, 0, 0},
-    {1, LARGEST, LARGEST, 1, 1, 0, 0, 0, 0},               /* 1 modulo 2^32 */
-    {1, LARGEST, LARGEST, LARGEST, LARGEST, 0, 0, 0, 0},
-    {0, 65536, 65536, 65536, 65536, 0, 0, 0, 0},           /* 0 modulo 2^64 */
-    {0, 16, 1024, 4096, 64, 0, 0, 0, 0},                   /* 2^32 elements, 0 modulo 2^32 */
-    {1 << 26, 16, 1024, 4096, 65, 0, 0, 0, 0},             /* 2^32 + 2^26 elements */
-    {LARGEST + 1, 16, 1024, 4096, 64, 15, 1023, 16383 * (UINT64_C(1) << 18), 1 << 18},
-    {UINT64_C(1) << 38, 16, 1024, 4096, 4096, 15, 1023, 16383 * (UINT64_C(1) << 24), 1 << 24}, /* the picker has no limit of elements */
-    {UINT64_C(1) << 38, 16, 1024, 4096, 4096, 16, 1023, 0, 0},
-    {0, 16, 1024, 4096, 4096, 0, 0, 0, 0},
+    {120, {2, 3, 1, 4, 5}, {0, 0, 0}, 0, 20}, {120, {2, 3, 1, 4, 5}, {0, 2, 0}, 40, 20}, {120, {2, 3, 1, 4, 5}, {1, 0, 0}, 60, 20},
+    {120, {2, 3, 1, 4, 5}, {1, 2, 0}, 100, 20}, {120, {2, 3, 1, 4, 5}, {2, 0, 0}, 0, 0}, {120, {2, 3, 1, 4, 5}, {0, 3, 0}, 0, 0},
+    {120, {2, 3, 1, 4, 5}, {0, 0, 1}, 0, 0}, {120, {2, 3, 1, 4, 5}, {LARGEST, 0, 0}, 0, 0}, {120, {2, 3, 1, 4, 5}, {0, LARGEST, 0}, 0, 0},
+    {120, {2, 3, 1, 4, 5}, {0, 0, LARGEST}, 0, 0}, {119, {2, 3, 1, 4, 5}, {0, 0, 0}, 0, 0}, {121, {2, 3, 1, 4, 5}, {0, 0, 0}, 0, 0},
+    {0, {2, 3, 1, 4, 5}, {0, 0, 0}, 0, 0}, {LARGEST + 121, {2, 3, 1, 4, 5}, {0, 0, 0}, 0, 0}, {30, {2, 3, 1, 1, 5}, {1, 2, 0}, 25, 5},
+    {720, {2, 3, 6, 4, 5}, {0, 0, 0}, 0, 20}, {720, {2, 3, 6, 4, 5}, {0, 0, 1}, 20, 20}, {720, {2, 3, 6, 4, 5}, {0, 0, 5}, 100, 20},
+    {720, {2, 3, 6, 4, 5}, {0, 1, 0}, 120, 20}, {720, {2, 3, 6, 4, 5}, {1, 0, 0}, 360, 20}, {720, {2, 3, 6, 4, 5}, {1, 2, 5}, 700, 20},
+    {720, {2, 3, 6, 4, 5}, {2, 0, 0}, 0, 0}, {720, {2, 3, 6, 4, 5}, {0, 3, 0}, 0, 0}, {720, {2, 3, 6, 4, 5}, {0, 0, 6}, 0, 0},
+    {720, {2, 3, 6, 4, 5}, {0, 0, LARGEST}, 0, 0}, {719, {2, 3, 6, 4, 5}, {0, 0, 0}, 0, 0}, {721, {2, 3, 6, 4, 5}, {0, 0, 0}, 0, 0},
+    {120, {2, 3, 6, 4, 5}, {0, 0, 0}, 0, 0}, {0, {2, 3, 6, 4, 5}, {0, 0, 0}, 0, 0}, {720, {2, 3, 1, 4, 5}, {0, 0, 0}, 0, 0},
+    {720, {2, 3, 4, 6, 5}, {1, 2, 3}, 690, 30}, {720, {2, 3, 24, 1, 5}, {1, 2, 23}, 715, 5}, {720, {2, 3, 120, 1, 1}, {1, 2, 119}, 719, 1},
+    {0, {0, 3, 6, 4, 5}, {0, 0, 0}, 0, 0}, {0, {2, 0, 6, 4, 5}, {0, 0, 0}, 0, 0}, {0, {2, 3, 0, 4, 5}, {0, 0, 0}, 0, 0},
+    {0, {2, 3, 6, 0, 5}, {0, 0, 0}, 0, 0}, {0, {2, 3, 6, 4, 0}, {0, 0, 0}, 0, 0}, {0, {0, 0, 0, 0, 0}, {0, 0, 0}, 0, 0},
+    {1, {1, 1, 1, 1, 1}, {0, 0, 0}, 0, 1}, {16, {16, 1, 1, 1, 1}, {15, 0, 0}, 15, 1}, {1024, {1, 1024, 1, 1, 1}, {0, 1023, 0}, 1023, 1},
+    {4096, {1, 1, 4096, 1, 1}, {0, 0, 4095}, 4095, 1}, {4096, {1, 1, 1, 4096, 1}, {0, 0, 0}, 0, 4096}, {4096, {1, 1, 1, 1, 4096}, {0, 0, 0}, 0, 4096},
+    {16, {16, 1, 1, 1, 1}, {16, 0, 0}, 0, 0}, {1024, {1, 1024, 1, 1, 1}, {0, 1024, 0}, 0, 0}, {4096, {1, 1, 4096, 1, 1}, {0, 0, 4096}, 0, 0},
+    {17, {17, 1, 1, 1, 1}, {0, 0, 0}, 0, 0}, {1025, {1, 1025, 1, 1, 1}, {0, 0, 0}, 0, 0}, {4097, {1, 1, 4097, 1, 1}, {0, 0, 0}, 0, 0},
+    {4097, {1, 1, 1, 4097, 1}, {0, 0, 0}, 0, 0}, {4097, {1, 1, 1, 1, 4097}, {0, 0, 0}, 0, 0},
+    {LARGEST, {LARGEST, 1, 1, 1, 1}, {0, 0, 0}, 0, 0}, {LARGEST, {1, LARGEST, 1, 1, 1}, {0, 0, 0}, 0, 0}, {LARGEST, {1, 1, LARGEST, 1, 1}, {0, 0, 0}, 0, 0},
+    {LARGEST, {1, 1, 1, LARGEST, 1}, {0, 0, 0}, 0, 0}, {LARGEST, {1, 1, 1, 1, LARGEST}, {0, 0, 0}, 0, 0},
+    {1, {LARGEST, LARGEST, 1, 1, 1}, {0, 0, 0}, 0, 0},           /* 1 modulo 2^32 */
+    {1, {LARGEST, LARGEST, 1, LARGEST, LARGEST}, {0, 0, 0}, 0, 0},
+    {0, {65536, 65536, 1, 65536, 65536}, {0, 0, 0}, 0, 0},       /* 0 modulo 2^64 */
+    {0, {65536, 65536, 65536, 65536, 65536}, {0, 0, 0}, 0, 0},
+    {0, {16, 1024, 1, 4096, 64}, {0, 0, 0}, 0, 0},               /* 2^32 elements, 0 modulo 2^32 */
+    {0, {16, 1024, 64, 64, 64}, {0, 0, 0}, 0, 0},
+    {1 << 26, {16, 1024, 1, 4096, 65}, {0, 0, 0}, 0, 0},         /* 2^32 + 2^26 elements */
+    /* The picker has no limit of elements: 2^24 + 1, 2^25, 2^32, 2^38 and 2^42 of them. */
+    {16777217, {1, 97, 257, 673, 1}, {0, 96, 256}, 24928 * 673, 673},
+    {1 << 25, {1, 2, 4096, 4096, 1}, {0, 1, 4095}, 8191 * 4096, 4096},
+    {LARGEST + 1, {16, 1024, 1, 4096, 64}, {15, 1023, 0}, 16383 * (UINT64_C(1) << 18), 1 << 18},
+    {LARGEST + 1, {16, 1024, 64, 64, 64}, {15, 1023, 63}, 1048575 * (UINT64_C(1) << 12), 1 << 12},
+    {UINT64_C(1) << 38, {16, 1024, 1, 4096, 4096}, {15, 1023, 0}, 16383 * (UINT64_C(1) << 24), 1 << 24},
+    {UINT64_C(1) << 38, {16, 1024, 1, 4096, 4096}, {16, 1023, 0}, 0, 0},
+    {UINT64_C(1) << 42, {16, 1024, 16, 4096, 4096}, {15, 1023, 15}, 262143 * (UINT64_C(1) << 24), 1 << 24},
+    {UINT64_C(1) << 42, {16, 1024, 16, 4096, 4096}, {15, 1023, 16}, 0, 0},
+    {0, {16, 1024, 1, 4096, 4096}, {0, 0, 0}, 0, 0},
 };
 
 static void try_planes(void) {
@@ -939,9 +1063,10 @@ static void try_planes(void) {
             not_tried++;
             continue;
         }
-        about = say("%" PRIu64 " elements, [%u, %u, %u, %u], image %u, channel %u", PICKED[i].len, PICKED[i].n, PICKED[i].c, PICKED[i].y, PICKED[i].x,
-                    PICKED[i].image, PICKED[i].channel);
-        koza_part p = koza_plane(tensor, PICKED[i].len, PICKED[i].n, PICKED[i].c, PICKED[i].y, PICKED[i].x, PICKED[i].image, PICKED[i].channel);
+        const uint32_t *s = PICKED[i].sizes, *at = PICKED[i].at;
+        about = say("%" PRIu64 " elements, [%u, %u, %u, %u, %u], image %u, channel %u, depth %u", PICKED[i].len, s[0], s[1], s[2], s[3], s[4], at[0],
+                    at[1], at[2]);
+        koza_part p = koza_plane(tensor, PICKED[i].len, s[0], s[1], s[2], s[3], s[4], at[0], at[1], at[2]);
         compare("koza_plane", say("start %zu, length %zu", PICKED[i].start, PICKED[i].length), say("start %zu, length %zu", p.start, p.length));
         if (tensor)
             munmap(tensor, bytes);
@@ -1135,24 +1260,25 @@ int main(void) {
     compare("koza_version", say("%d", KOZA_VERSION), say("%u", koza_version()));
     for (int op = 0; op < OPS; op++) {
         try_nothing((enum op)op);
-        for (int axes = 1; axes <= 2; axes++)
+        for (int axes = 1; axes <= 3; axes++)
             try_operator((enum op)op, axes);
         for (int b = INPUT; b < BUFFERS; b++)
             try_long_buffer((enum op)op, b);
         try_crlf((enum op)op);
         try_longest((enum op)op);
     }
-    try_axis(1);
-    try_axis(2);
-    try_valid(X, 1);
-    try_valid(X, 2);
-    try_valid(Y, 2);
+    for (int axes = 1; axes <= 3; axes++) {
+        try_axis(axes);
+        for (int axis = 3 - axes; axis < 3; axis++)
+            try_valid((enum field)(Z + axis), axes);
+    }
     try_combined();
-    try_planes_of_outputs(CONVOLUTION);
-    try_planes_of_outputs(TRANSPOSED);
+    try_channels_of_outputs(CONVOLUTION);
+    try_channels_of_outputs(TRANSPOSED);
     for (size_t i = 0; i < COUNT(RESULTS); i++)
         try_result(i);
-    try_sheets();
+    try_sheets(SHEETS, COUNT(SHEETS), 2);
+    try_sheets(SHEETS_3, COUNT(SHEETS_3), 3);
     set_sheet("", 0);
     try_planes();
     try_peaks();

@@ -21,7 +21,7 @@ enum function { VERSION, SHAPE, LENGTHS, CONVOLUTION, TRANSPOSED, MAXPOOL, REWRI
 static const char *const NAMES[FUNCTIONS] = {"koza_version", "koza_shape", "koza_lengths", "koza_convolution", "koza_transposed",
                                              "koza_maxpool", "koza_rewrite", "koza_plane", "koza_peak", "an array of 4,096 bytes"};
 
-enum { ELEMENTS = 1 << 18 };
+enum { ELEMENTS = 1 << 19 };
 static float input[ELEMENTS], kernel[ELEMENTS], output[ELEMENTS];
 static int64_t indices[ELEMENTS];
 
@@ -30,7 +30,7 @@ static struct {
     int real; /* or the empty function in its place */
     uint8_t sheet[2 * KOZA_SHEET_MAX], buffer[2 * KOZA_SHEET_MAX];
     size_t sheet_len, buffer_len, input_len, kernel_len, output_len, indices_len, width;
-    uint32_t sizes[4], image, channel;
+    uint32_t sizes[5], image, channel, depth;
     uint32_t number;
 } at;
 
@@ -66,7 +66,8 @@ static koza_written no_rewrite(const uint8_t *sheet, size_t sheet_len, uint8_t *
     TELL;
     return (koza_written){0};
 }
-static koza_part no_plane(const float *tensor, size_t tensor_len, uint32_t n, uint32_t c, uint32_t y, uint32_t x, uint32_t image, uint32_t channel) {
+static koza_part no_plane(const float *tensor, size_t tensor_len, uint32_t n, uint32_t c, uint32_t z, uint32_t y, uint32_t x, uint32_t image,
+                          uint32_t channel, uint32_t depth) {
     TELL;
     return (koza_part){0};
 }
@@ -99,12 +100,14 @@ static koza_answer (*volatile transposed[2])(const uint8_t *, size_t, const floa
 static koza_answer (*volatile maxpool[2])(const uint8_t *, size_t, const float *, size_t, float *, size_t, int64_t *,
                                           size_t) = {no_maxpool, koza_maxpool};
 static koza_written (*volatile rewrite[2])(const uint8_t *, size_t, uint8_t *, size_t) = {no_rewrite, koza_rewrite};
-static koza_part (*volatile plane[2])(const float *, size_t, uint32_t, uint32_t, uint32_t, uint32_t, uint32_t, uint32_t) = {no_plane, koza_plane};
+static koza_part (*volatile plane[2])(const float *, size_t, uint32_t, uint32_t, uint32_t, uint32_t, uint32_t, uint32_t, uint32_t,
+                                      uint32_t) = {no_plane, koza_plane};
 static koza_peak_answer (*volatile peak[2])(const float *, size_t, size_t) = {no_peak, koza_peak};
 static uint32_t (*volatile controls[2])(void) = {no_control, control};
 
 static void make_call(void) {
     const uint8_t *s = at.sheet;
+    const uint32_t *size = at.sizes;
     size_t n = at.sheet_len;
     int r = at.real;
     switch (at.function) {
@@ -116,7 +119,7 @@ static void make_call(void) {
     case MAXPOOL: at.number = maxpool[r](s, n, input, at.input_len, output, at.output_len, indices, at.indices_len).number; break;
     case REWRITE: at.number = rewrite[r](s, n, at.buffer, at.buffer_len).number; break;
     case PLANE:
-        at.number = plane[r](input, at.input_len, at.sizes[0], at.sizes[1], at.sizes[2], at.sizes[3], at.image, at.channel).length == 0;
+        at.number = plane[r](input, at.input_len, size[0], size[1], size[2], size[3], size[4], at.image, at.channel, at.depth).length == 0;
         break;
     case PEAK: at.number = peak[r](input, at.input_len, at.width).number; break;
     default: controls[r](); break;
@@ -195,20 +198,24 @@ static void add_word(const char *key, const char *word) {
     at.sheet_len += (size_t)sprintf((char *)at.sheet + at.sheet_len, "%s=%s\n", key, word);
 }
 
-/* A list that ends in a number of X and, with two axes, one of Y before it. */
-static void add_list(const char *head, int axes, uint32_t y, uint32_t x) {
-    char *to = (char *)at.sheet + at.sheet_len;
-    at.sheet_len += (size_t)(axes == 2 ? sprintf(to, "%s%" PRIu32 ",%" PRIu32 "\n", head, y, x) : sprintf(to, "%s%" PRIu32 "\n", head, x));
+/* A list that ends in a number of X and, before it, one of each other axis; with one axis any number. */
+static void add_list(const char *head, int axes, uint32_t other, uint32_t x) {
+    char *start = (char *)at.sheet + at.sheet_len, *to = start + sprintf(start, "%s", head);
+    for (int axis = 1; axis < axes; axis++)
+        to += sprintf(to, "%" PRIu32 ",", other);
+    to += sprintf(to, "%" PRIu32 "\n", x);
+    at.sheet_len += (size_t)(to - start);
 }
 
-/* Rows of `outputs` outputs, where the pads leave room for them, and a few rows. */
+/* Rows of `outputs` outputs, where the pads leave room for them, and a few rows and depths. */
 static void write_sheet(layer l) {
     uint32_t need = (l.outputs - 1) * l.stride + (l.kernel - 1) * l.dilation + 1, pads = l.mode == 0 ? 2 * l.pad : 0;
     uint32_t in = l.op == 1 ? l.outputs : l.mode == 1 || l.mode == 2 ? l.outputs * l.stride : need > pads ? need - pads : 1;
+    uint32_t rows = l.axes == 3 ? l.kernel + 1 : l.kernel + 3; /* fewer where there are depths: the calls stay short */
     at.sheet_len = 0;
     add_word("op", OPS[l.op]);
-    add_word("axes", l.axes == 1 ? "1" : "2");
-    add_list("input=2,2,", l.axes, l.kernel + 3, in);
+    add_list("axes=", 1, 0, (uint32_t)l.axes);
+    add_list("input=2,2,", l.axes, rows, in);
     add_list(l.op == 2 ? "kernel=" : "kernel=1,2,2,", l.axes, l.kernel, l.kernel);
     add_list("strides=", l.axes, l.stride, l.stride);
     add_list("dilations=", l.axes, l.dilation, l.dilation);
@@ -292,19 +299,19 @@ static void call_bad_sheets(int op, int axes) {
 }
 
 /* The longest sheet: numbers of ten digits. */
-static void call_longest_sheet(void) {
+static void call_longest_sheet(int axes) {
 #define MAX "4294967295"
     at.sheet_len = 0;
     add_word("op", "transposed");
-    add_word("axes", "2");
-    add_list("input=" MAX "," MAX ",", 2, UINT32_MAX, UINT32_MAX);
-    add_list("kernel=" MAX "," MAX "," MAX ",", 2, UINT32_MAX, UINT32_MAX);
-    add_list("strides=", 2, UINT32_MAX, UINT32_MAX);
-    add_list("dilations=", 2, UINT32_MAX, UINT32_MAX);
+    add_list("axes=", 1, 0, (uint32_t)axes);
+    add_list("input=" MAX "," MAX ",", axes, UINT32_MAX, UINT32_MAX);
+    add_list("kernel=" MAX "," MAX "," MAX ",", axes, UINT32_MAX, UINT32_MAX);
+    add_list("strides=", axes, UINT32_MAX, UINT32_MAX);
+    add_list("dilations=", axes, UINT32_MAX, UINT32_MAX);
     add_word("auto_pad", "same_upper");
-    add_list("pads_begin=", 2, UINT32_MAX, UINT32_MAX);
-    add_list("pads_end=", 2, UINT32_MAX, UINT32_MAX);
-    add_list("output_padding=", 2, UINT32_MAX, UINT32_MAX);
+    add_list("pads_begin=", axes, UINT32_MAX, UINT32_MAX);
+    add_list("pads_end=", axes, UINT32_MAX, UINT32_MAX);
+    add_list("output_padding=", axes, UINT32_MAX, UINT32_MAX);
     add_word("rounding", "floor");
     add_word("axis", "0");
     call_with_sheet(1);
@@ -312,12 +319,13 @@ static void call_longest_sheet(void) {
 }
 
 static void call_planes(void) {
-    const uint32_t sizes[][4] = {{2, 3, 4, 5}, {0, 3, 4, 5}, {2, 3, 4, 4097}, {1, 1, 1, 1}, {16, 4, 8, 8}, {17, 1, 1, 1}};
+    const uint32_t sizes[][5] = {{2, 3, 1, 4, 5}, {0, 3, 1, 4, 5}, {2, 3, 1, 4, 4097}, {1, 1, 1, 1, 1}, {16, 4, 1, 8, 8}, {17, 1, 1, 1, 1},
+                                 {2, 3, 4, 5, 6}, {2, 3, 0, 5, 6}, {2, 3, 4097, 5, 6}};
     for (size_t i = 0; i < COUNT(sizes); i++)
         for (at.image = 0; at.image < 3; at.image++) {
-            at.channel = at.image;
+            at.channel = at.depth = at.image;
             memcpy(at.sizes, sizes[i], sizeof at.sizes);
-            at.input_len = (size_t)sizes[i][0] * sizes[i][1] * sizes[i][2] * sizes[i][3];
+            at.input_len = (size_t)sizes[i][0] * sizes[i][1] * sizes[i][2] * sizes[i][3] * sizes[i][4];
             measure(PLANE);
         }
 }
@@ -354,12 +362,13 @@ int main(void) {
         input[i] = kernel[i] = 1;
     measure(CONTROL);
     measure(VERSION);
-    for (int op = 0; op < 3; op++)
-        for (int axes = 1; axes <= 2; axes++) {
+    for (int axes = 1; axes <= 3; axes++) {
+        for (int op = 0; op < 3; op++) {
             call_layers(op, axes);
             call_bad_sheets(op, axes);
         }
-    call_longest_sheet();
+        call_longest_sheet(axes);
+    }
     call_planes();
     call_peaks();
     return report();

@@ -61,9 +61,9 @@ pub fn rewrite(sheet: &[u8], buffer: &mut [u8]) -> Written {
     unsafe { boundary::koza_rewrite(sheet.as_ptr(), sheet.len(), buffer.as_mut_ptr(), buffer.len()) }
 }
 
-/// Where the plane of an image and a channel of the tensor \[N, C, Y, X\] lies; zeros where it is refused.
-pub fn plane(tensor: &[f32], [n, c, y, x]: [u32; 4], image: u32, channel: u32) -> Part {
-    unsafe { boundary::koza_plane(tensor.as_ptr(), tensor.len(), n, c, y, x, image, channel) }
+/// Where the plane at an image, a channel and a depth of the tensor \[N, C, Z, Y, X\] lies; zeros where it is refused.
+pub fn plane(tensor: &[f32], [n, c, z, y, x]: [u32; 5], image: u32, channel: u32, depth: u32) -> Part {
+    unsafe { boundary::koza_plane(tensor.as_ptr(), tensor.len(), n, c, z, y, x, image, channel, depth) }
 }
 
 /// The first largest element of a plane with rows of `width` elements: numbers 0, 8 and 9.

@@ -17,7 +17,8 @@ pub struct Answer {
     pub bad: usize,
 }
 
-/// The output's sizes; zeros but for `number` and `line` where the call is refused. With one axis `y` is 1.
+/// The output's sizes; zeros but for `number` and `line` where the call is refused. `z` is 1 where the sheet has fewer than three axes, and `y` where it has
+/// one.
 #[repr(C)]
 #[derive(Clone, Copy, Debug, PartialEq, Eq)]
 pub struct ShapeAnswer {
@@ -31,6 +32,8 @@ pub struct ShapeAnswer {
     pub n: u32,
     /// Channels.
     pub c: u32,
+    /// Depths.
+    pub z: u32,
     /// Rows.
     pub y: u32,
     /// Columns.
@@ -117,6 +120,10 @@ extern "C" {
     pub fn koza_shape(sheet: *const u8, sheet_len: usize) -> ShapeAnswer;
     pub fn koza_lengths(sheet: *const u8, sheet_len: usize) -> LengthsAnswer;
     pub fn koza_rewrite(sheet: *const u8, sheet_len: usize, buffer: *mut u8, buffer_len: usize) -> Written;
-    pub fn koza_plane(tensor: *const f32, tensor_len: usize, n: u32, c: u32, y: u32, x: u32, image: u32, channel: u32) -> Part;
+    pub fn koza_plane(
+        tensor: *const f32, tensor_len: usize,
+        n: u32, c: u32, z: u32, y: u32, x: u32,
+        image: u32, channel: u32, depth: u32,
+    ) -> Part;
     pub fn koza_peak(plane: *const f32, plane_len: usize, width: usize) -> PeakAnswer;
 }

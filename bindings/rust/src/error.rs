@@ -63,7 +63,7 @@ impl fmt::Display for Error {
 pub fn text(number: u32) -> &'static str {
     match number {
         0 => "done: every output element is written",
-        1 => "axes is not 1 or 2, or a dimension that the operator uses is outside its limit",
+        1 => "axes is not 1, 2 or 3, or a dimension that the operator uses is outside its limit",
         2 => {
             "an attribute outside its limit, a sheet of another operator, a same mode with transposed, axis outside its range, or an unused field not at its \
              default"

@@ -14,7 +14,7 @@
 //! kozamyure::convolution(&sheet, &input, &kernel, &mut output)?;
 //!
 //! let shape = kozamyure::shape(&sheet)?;
-//! let plane = kozamyure::plane(&output, shape.sizes(), 0, 0);
+//! let plane = kozamyure::plane(&output, shape.sizes(), 0, 0, 0);
 //! let peak = kozamyure::peak(plane, shape.x as usize)?;
 //! println!("{} at row {}, column {}", peak.value, peak.row, peak.column);
 //! # Ok(())
@@ -43,15 +43,17 @@ pub use error::{text, Error, Tensor};
 /// A buffer of this many bytes has room for every sheet.
 pub const SHEET_MAX: usize = 512;
 
-/// The sizes of an output. With one axis `y` is 1.
+/// The sizes of an output. `z` is 1 where the sheet has fewer than three axes, and `y` where it has one.
 #[derive(Debug, Clone, Copy, PartialEq, Eq)]
 pub struct Shape {
-    /// The number of spatial axes, 1 or 2.
+    /// The number of spatial axes, 1 to 3.
     pub axes: u32,
     /// Images.
     pub n: u32,
     /// Channels.
     pub c: u32,
+    /// Depths.
+    pub z: u32,
     /// Rows.
     pub y: u32,
     /// Columns.
@@ -59,9 +61,9 @@ pub struct Shape {
 }
 
 impl Shape {
-    /// N, C, Y and X, as [`plane`] takes them.
-    pub fn sizes(&self) -> [u32; 4] {
-        [self.n, self.c, self.y, self.x]
+    /// N, C, Z, Y and X, as [`plane`] takes them.
+    pub fn sizes(&self) -> [u32; 5] {
+        [self.n, self.c, self.z, self.y, self.x]
     }
 }
 
@@ -91,7 +93,7 @@ pub struct Peak {
 pub fn shape(sheet: &[u8]) -> Result<Shape, Error> {
     let a = answers::shape(sheet);
     Error::check_sheet(a.number, a.line)?;
-    Ok(Shape { axes: a.axes, n: a.n, c: a.c, y: a.y, x: a.x })
+    Ok(Shape { axes: a.axes, n: a.n, c: a.c, z: a.z, y: a.y, x: a.x })
 }
 
 /// Reads the sheet, makes checks 1 to 7 of its own operator and gives the lengths of its buffers. Refused with 1 to 7 and 20 to 23.
@@ -101,19 +103,19 @@ pub fn lengths(sheet: &[u8]) -> Result<Lengths, Error> {
     Ok(Lengths { input: a.input, kernel: a.kernel, output: a.output })
 }
 
-/// Writes every element of the output \[N, G·O, OY, OX\] from the input \[N, C, Y, X\] and the kernel \[G, O, I, KY, KX\], all row-major.
-/// Refused with 1 to 6, 8, 9 and 20 to 23; the output is then as it was.
+/// Writes every element of the output \[N, G·O, OZ, OY, OX\] from the input \[N, C, Z, Y, X\] and the kernel \[G, O, I, KZ, KY, KX\], all row-major; with
+/// two axes every Z is left out, with one every Z and Y. Refused with 1 to 6, 8, 9 and 20 to 23; the output is then as it was.
 pub fn convolution(sheet: &[u8], input: &[f32], kernel: &[f32], output: &mut [f32]) -> Result<(), Error> {
     written(answers::convolution(sheet, input, kernel, output))
 }
 
-/// As [`convolution`], with the kernel \[G, I, O, KY, KX\].
+/// As [`convolution`], with the kernel \[G, I, O, KZ, KY, KX\].
 pub fn transposed(sheet: &[u8], input: &[f32], kernel: &[f32], output: &mut [f32]) -> Result<(), Error> {
     written(answers::transposed(sheet, input, kernel, output))
 }
 
-/// Writes every element of values and indices \[N, C, OY, OX\] from the input \[N, C, Y, X\]. Refused with 1, 2, 4 to 9 and 20 to 23; both are then as
-/// they were.
+/// Writes every element of values and indices \[N, C, OZ, OY, OX\] from the input \[N, C, Z, Y, X\]; with two axes every Z is left out, with one every Z
+/// and Y. Refused with 1, 2, 4 to 9 and 20 to 23; both are then as they were.
 pub fn maxpool(sheet: &[u8], input: &[f32], values: &mut [f32], indices: &mut [i64]) -> Result<(), Error> {
     written(answers::maxpool(sheet, input, values, indices))
 }
@@ -131,11 +133,12 @@ pub fn rewrite(sheet: &[u8], buffer: &mut [u8]) -> Result<usize, Error> {
     Ok(a.length)
 }
 
-/// The plane of an image and a channel of the tensor \[N, C, Y, X\], as that part of the caller's own slice. It is the empty part where a size is outside
-/// its limit, the length is not N·C·Y·X, or image or channel is not below its count. The limits are those of an input: an output can have more than
-/// 1,024 channels, or more than 4,096 rows or columns, and its planes are then refused. No element is looked at.
-pub fn plane(tensor: &[f32], sizes: [u32; 4], image: u32, channel: u32) -> &[f32] {
-    let part = answers::plane(tensor, sizes, image, channel);
+/// The plane of rows and columns at an image, a channel and a depth of the tensor \[N, C, Z, Y, X\], as that part of the caller's own slice. Sizes of
+/// axes that the tensor lacks are 1, so its depth is 0. The plane is the empty part where a size is outside its limit, the length is not N·C·Z·Y·X, or
+/// image, channel or depth is not below its count. The limits are those of an input: an output can have more than 1,024 channels, or more than 4,096
+/// depths, rows or columns, and its planes are then refused. A tensor of more than 16,777,216 elements is taken. No element is looked at.
+pub fn plane(tensor: &[f32], sizes: [u32; 5], image: u32, channel: u32, depth: u32) -> &[f32] {
+    let part = answers::plane(tensor, sizes, image, channel, depth);
     tensor.get(part.start..).and_then(|t| t.get(..part.length)).unwrap_or_default()
 }
 

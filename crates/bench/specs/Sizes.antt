@@ -19,7 +19,7 @@ use Rattle.shape.specs.Judge.{judged}
 abbrev pub along : ℕ → ℕ → ℕ → ℕ → ℕ → Axis
 along size k s d pad = record { input = size; kernel = k; stride = s; dilation = d; «pad_begin» = pad; «pad_end» = pad; «output_padding» = 0 }
 
--- one image, one channel
+-- one image, one channel, one or two axes
 abbrev onePlane : ℕ → Op → AutoPad → Rounding → Axis → Axis → Layer
 onePlane axes op m r y x =
     record {
@@ -30,6 +30,7 @@ onePlane axes op m r y x =
       g = 1;
       o = 1;
       i = 1;
+      z = defaultAxis;
       y = y;
       x = x;
       «auto_pad» = m;

@@ -39,6 +39,10 @@ capped-both a b =
 pub capped-cong : (p q z : ℕ) → capped p ≡ capped q → capped (p * z) ≡ capped (q * z)
 capped-cong p q z e = sym (capped-left p z) ∙ (ap (λ (n : ℕ). capped (n * z)) e ∙ capped-left q z)
 
+-- a cap of the first factor of a volume is not seen either
+pub volume-left : (a z y x : ℕ) → capped (capped a * z * y * x) ≡ capped (a * z * y * x)
+volume-left a z y x = capped-cong _ (a * z * y) x (capped-cong _ (a * z) y (capped-left a z))
+
 pub capped-twice : (a : ℕ) → capped (capped a) ≡ capped a
 unfolding capped
 capped-twice a = omega arith

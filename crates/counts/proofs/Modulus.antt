@@ -1,57 +1,38 @@
--- Laws of the modulus of an index: small signed numbers by cases on the sign, the product of the last of four dimensions, and its bounds.
-use mathlib.Core.Path.{_≡_, refl}
-use mathlib.Core.Bool.{Bool, true, false, cond, false≢true}
-use mathlib.Core.List.{List, [], _∷_}
-use Prim.Native.Nat.{ℕ, zero, suc, _-_, _*_, _≤_}
-use native.Mathlib.Nat.{zero-add, mul-one, mul-assoc, mul-comm, one-le-mul, le-mul-of-pos-right, mul-le-mul-right, le-trans}
+-- Laws of the modulus of an index: the product of the last of five dimensions, and its bounds.
+use mathlib.Core.Path.{_≡_, refl, ap, _∙_}
+use mathlib.Core.Bool.{Bool, true, false, cond}
+use mathlib.Core.List.{List, [], _∷_, _++_}
+use Prim.Native.Nat.{ℕ, zero, suc, _*_, _≤_}
+use native.Mathlib.Nat.{mul-one, mul-assoc, mul-comm, one-le-mul, le-mul-of-pos-right, mul-le-mul-right, le-trans}
 use native.Mathlib.Omega.{arith}
-use lib.Dec.{eqb}
 use lib.ListN.{drop}
-use lib.IntN.{ℤ, pos, negsuc, natAbs, _-ℤ_}
-use lib.Signed.{ltZ}
-use borrow.Author.Tests.{ltb-true, ltb-false}
+use lib.IntN.{ℤ}
+use Rattle.layer.specs.Axes.{usesY, usesZ}
 use Rattle.layer.specs.Limits.{rank}
 use Rattle.counts.specs.Index.{dimensions, dimensionsBefore, product, modulus, productFrom}
 
--- ---- the axis
+-- 1 after the last dimension changes no product
+product-one : (ds : List ℕ) → product (ds ++ (1 ∷ [])) ≡ product ds
+product-one [] = refl
+product-one (d ∷ ds) = ap (λ (p : ℕ). d * p) (product-one ds)
 
--- -5 and below count from before the first dimension
-pub far : (r : ℕ) (z : ℤ) → r ≤ 4 → ltZ z (negsuc 3) ≡ true → 0 ≡ dimensionsBefore r z
-far r (pos a) h e = absurd (false≢true cc)
-far r (negsuc m) h e = let l = ltb-true 3 m e in omega arith
+pub one-after : (k : ℕ) (ds : List ℕ) → product (drop k (ds ++ (1 ∷ []))) ≡ product (drop k ds)
+one-after zero ds = product-one ds
+one-after (suc zero) [] = refl
+one-after (suc (suc k)) [] = refl
+one-after (suc k) (d ∷ ds) = one-after k ds
 
--- -4 to -1
-pub record Near (z : ℤ) : Type 0 where
-  pub m : ℕ
-  pub is : z ≡ negsuc m
-  pub small : m ≤ 3
+-- past the last
+pub none-left : (k a b c d e : ℕ) → 5 ≤ k → 1 ≡ productFrom k a b c d e
+none-left zero a b c d e h = absurd (omega arith)
+none-left (suc zero) a b c d e h = absurd (omega arith)
+none-left (suc (suc zero)) a b c d e h = absurd (omega arith)
+none-left (suc (suc (suc zero))) a b c d e h = absurd (omega arith)
+none-left (suc (suc (suc (suc zero)))) a b c d e h = absurd (omega arith)
+none-left (suc (suc (suc (suc (suc zero))))) a b c d e h = refl
+none-left (suc (suc (suc (suc (suc (suc k)))))) a b c d e h = refl
 
-pub near : (z : ℤ) → ltZ z (pos 0) ≡ true → ltZ z (negsuc 3) ≡ false → Near z
-near (pos a) e f = let l = ltb-true a 0 e in absurd (omega arith)
-near (negsuc m) e f = record { m = m; is = refl; small = ltb-false 3 m f }
-
-pub back : (m : ℕ) → pos 0 -ℤ negsuc m ≡ pos (suc m)
-back m = rw zero-add
-
--- what is taken off the rank
-pub near-before : (r : ℕ) (z b : ℤ) (n : Near z) → b ≡ pos (suc (n .m)) → dimensionsBefore r z ≡ r - natAbs b
-near-before r z b n e = rw (e, n .is)
-
--- 0 and above
-pub record Whole (z : ℤ) : Type 0 where
-  pub n : ℕ
-  pub is : z ≡ pos n
-
-pub whole : (z : ℤ) → ltZ z (pos 0) ≡ false → Whole z
-whole (pos a) e = record { n = a; is = refl }
-whole (negsuc m) e = absurd (false≢true cc)
-
-pub whole-before : (r : ℕ) (z b : ℤ) → Whole z → b ≡ z → natAbs b ≡ dimensionsBefore r z
-whole-before r z b w e = rw (e, w .is)
-
--- ---- the product
-
--- without its first k, a list of dimensions of at least 1 has a product from 1 up to that of all
+-- ---- without its first k, a list of dimensions of at least 1 has a product from 1 up to that of all
 abbrev AllPos : List ℕ → Type 0
 AllPos [] = Unit {0}
 AllPos (d ∷ ds) = (1 ≤ d) × AllPos ds
@@ -68,39 +49,27 @@ product-within (suc k) (d ∷ ds) h =
     let g : product ds ≤ d * product ds = rw (mul-comm d (product ds)) (le-mul-of-pos-right (product ds) (h .0)) in
     (u .0, le-trans (u .1) g)
 
-four-is : (a b c d : ℕ) → product (a ∷ b ∷ c ∷ d ∷ []) ≡ a * b * c * d
-four-is a b c d = simp (mul-one, mul-assoc)
+five-is : (a b c d e : ℕ) → product (a ∷ b ∷ c ∷ d ∷ e ∷ []) ≡ a * b * c * d * e
+five-is a b c d e = simp (mul-one, mul-assoc)
 
--- a fourth dimension of 1 changes no product
-pub three-is : (k a b c : ℕ) → productFrom k a b c 1 ≡ product (drop k (a ∷ b ∷ c ∷ []))
-three-is zero a b c = refl
-three-is (suc zero) a b c = refl
-three-is (suc (suc zero)) a b c = refl
-three-is (suc (suc (suc zero))) a b c = refl
-three-is (suc (suc (suc (suc zero)))) a b c = refl
-three-is (suc (suc (suc (suc (suc k))))) a b c = refl
+-- ---- the modulus of an input of n·c·z·y·x elements, each at least 1
 
--- past the last
-pub none-left : (k a b c d : ℕ) → (k ≡ 0 → ⊥) → (k ≡ 1 → ⊥) → (k ≡ 2 → ⊥) → (k ≡ 3 → ⊥) → 1 ≡ productFrom k a b c d
-none-left zero a b c d h0 h1 h2 h3 = absurd (h0 refl)
-none-left (suc zero) a b c d h0 h1 h2 h3 = absurd (h1 refl)
-none-left (suc (suc zero)) a b c d h0 h1 h2 h3 = absurd (h2 refl)
-none-left (suc (suc (suc zero))) a b c d h0 h1 h2 h3 = absurd (h3 refl)
-none-left (suc (suc (suc (suc zero)))) a b c d h0 h1 h2 h3 = refl
-none-left (suc (suc (suc (suc (suc k))))) a b c d h0 h1 h2 h3 = refl
+module _ (n c z y x : ℕ) (hn : 1 ≤ n) (hc : 1 ≤ c) (hz : 1 ≤ z) (hy : 1 ≤ y) (hx : 1 ≤ x) where
+  abbrev of : Bool → Bool → List ℕ
+  of three two = cond three (n ∷ c ∷ z ∷ y ∷ x ∷ []) (cond two (n ∷ c ∷ y ∷ x ∷ []) (n ∷ c ∷ x ∷ []))
 
--- ---- the modulus of an input of n·c·y·x elements, each at least 1
+  rows : n * c * y ≤ n * c * z * y
+  rows = mul-le-mul-right y (le-mul-of-pos-right (n * c) hz)
 
-module _ (n c y x : ℕ) (hn : 1 ≤ n) (hc : 1 ≤ c) (hy : 1 ≤ y) (hx : 1 ≤ x) where
-  of-dimensions : (one : Bool) → let ds = cond one (n ∷ c ∷ x ∷ []) (n ∷ c ∷ y ∷ x ∷ []) in AllPos ds × (product ds ≤ n * c * y * x)
-  of-dimensions true =
-      let g : n * c ≤ n * c * y = le-mul-of-pos-right (n * c) hy in
-      ((hn, (hc, (hx, tt))), rw (four-is n c x 1, mul-one) (mul-le-mul-right x g))
-  of-dimensions false = ((hn, (hc, (hy, (hx, tt)))), rw (four-is n c y x) (omega arith))
+  of-dimensions : (three two : Bool) → AllPos (of three two) × (product (of three two) ≤ n * c * z * y * x)
+  of-dimensions true two = ((hn, (hc, (hz, (hy, (hx, tt))))), rw (five-is n c z y x) (omega arith))
+  of-dimensions false true = ((hn, (hc, (hy, (hx, tt)))), rw (five-is n c y x 1, mul-one) (mul-le-mul-right x rows))
+  of-dimensions false false =
+      ((hn, (hc, (hx, tt))), rw (five-is n c x 1 1, mul-one (n * c * x * 1), mul-one (n * c * x)) (mul-le-mul-right x (le-trans (le-mul-of-pos-right (n * c) hy) rows)))
 
-  pub modulus-within : (axes : ℕ) (axis : ℤ) → (1 ≤ modulus axes axis n c y x) × (modulus axes axis n c y x ≤ n * c * y * x)
+  pub modulus-within : (axes : ℕ) (axis : ℤ) → (1 ≤ modulus axes axis n c z y x) × (modulus axes axis n c z y x ≤ n * c * z * y * x)
   unfolding modulus
   modulus-within axes axis =
-      let u = of-dimensions (eqb axes 1) in
-      let v = product-within (dimensionsBefore (rank axes) axis) (dimensions axes n c y x) (u .0) in
+      let u = of-dimensions (usesZ axes) (usesY axes) in
+      let v = product-within (dimensionsBefore (rank axes) axis) (dimensions axes n c z y x) (u .0) in
       (v .0, le-trans (v .1) (u .1))

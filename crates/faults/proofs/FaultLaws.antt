@@ -53,15 +53,15 @@ fault-found first l = found (faults first l) (search needs)
 -- every test is passed
 pub record Passed (l : Layer) : Type 0 where
   pub axes : badAxes (l .axes) ≡ false
-  pub input : hides (l .axes) (l .y .input) 1 ≡ false
-  pub kernel : hides (l .axes) (l .y .kernel) 1 ≡ false
+  pub input : hides (l .axes) (l .z .input) (l .y .input) 1 ≡ false
+  pub kernel : hides (l .axes) (l .z .kernel) (l .y .kernel) 1 ≡ false
   pub sizes : hidesSizes (l .op) (l .g) (l .o) (l .i) ≡ false
-  pub stride : hides (l .axes) (l .y .stride) 1 ≡ false
-  pub dilation : hides (l .axes) (l .y .dilation) 1 ≡ false
-  pub begin : hides (l .axes) (l .y .«pad_begin») 0 ≡ false
-  pub end : hides (l .axes) (l .y .«pad_end») 0 ≡ false
-  pub padding : hides (l .axes) (l .y .«output_padding») 0 ≡ false
-  pub used-padding : unusedPadding (l .op) (l .y .«output_padding») (l .x .«output_padding») ≡ false
+  pub stride : hides (l .axes) (l .z .stride) (l .y .stride) 1 ≡ false
+  pub dilation : hides (l .axes) (l .z .dilation) (l .y .dilation) 1 ≡ false
+  pub begin : hides (l .axes) (l .z .«pad_begin») (l .y .«pad_begin») 0 ≡ false
+  pub end : hides (l .axes) (l .z .«pad_end») (l .y .«pad_end») 0 ≡ false
+  pub padding : hides (l .axes) (l .z .«output_padding») (l .y .«output_padding») 0 ≡ false
+  pub used-padding : unusedPadding (l .op) (l .z .«output_padding») (l .y .«output_padding») (l .x .«output_padding») ≡ false
   pub used-rounding : unusedRounding (l .op) (l .rounding) ≡ false
   pub axis : badAxis (l .axis) ≡ false
   pub used-axis : unusedAxis (l .op) (l .axis) ≡ false

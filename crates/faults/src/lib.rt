@@ -3,12 +3,15 @@ use layer::Axis;
 use layer::Layer;
 use layer::Op;
 use layer::Rounding;
+use layer::axes_in;
 use layer::is_default_axis_attribute;
 use layer::is_default_rounding;
 use layer::is_pool;
 use layer::is_transposed;
+use layer::uses_y;
+use layer::uses_z;
 ghost use mathlib.Core.Path.{_≡_};
-ghost use Rattle.faults.specs.Faults.{badAxes, badAxis, hides, hidesSizes, unusedPadding, unusedRounding, unusedAxis, axisFaults, padFaults, firstFault, faultOf};
+ghost use Rattle.faults.specs.Faults.{badAxes, badAxis, hides, hidesSizes, isDefaultPadding, unusedPadding, unusedRounding, unusedAxis, axisFaults, padFaults, firstFault, faultOf};
 
 // What a sheet cannot show of a layer: nothing, or the number and the line of the first bad line.
 pub enum Fault {
@@ -19,7 +22,7 @@ pub enum Fault {
 fn bad_axes(axes: u32) -> bool
     ensures { λ r. ⌜ r ≡ badAxes axes ⌝ }
 {
-    !(axes == 1) & !(axes == 2)
+    !axes_in(axes)
 }
 
 fn bad_axis(axis: i32) -> bool
@@ -28,10 +31,10 @@ fn bad_axis(axis: i32) -> bool
     !((-9 <= axis) & (axis <= 9))
 }
 
-fn hides(axes: u32, y: u32, default: u32) -> bool
-    ensures { λ r. ⌜ r ≡ hides axes y default ⌝ }
+fn hides(axes: u32, z: u32, y: u32, default: u32) -> bool
+    ensures { λ r. ⌜ r ≡ hides axes z y default ⌝ }
 {
-    (axes == 1) & !(y == default)
+    (!uses_z(axes) & !(z == default)) | (!uses_y(axes) & !(y == default))
 }
 
 fn hides_sizes(op: Op, g: u32, o: u32, i: u32) -> bool
@@ -40,10 +43,16 @@ fn hides_sizes(op: Op, g: u32, o: u32, i: u32) -> bool
     is_pool(op) & !((g == Layer::SIZE) & (o == Layer::SIZE) & (i == Layer::SIZE))
 }
 
-fn unused_padding(op: Op, y: u32, x: u32) -> bool
-    ensures { λ r. ⌜ r ≡ unusedPadding op y x ⌝ }
+fn is_default_padding(p: u32) -> bool
+    ensures { λ r. ⌜ r ≡ isDefaultPadding p ⌝ }
 {
-    !is_transposed(op) & !((y == Axis::OUTPUT_PADDING) & (x == Axis::OUTPUT_PADDING))
+    p == Axis::OUTPUT_PADDING
+}
+
+fn unused_padding(op: Op, z: u32, y: u32, x: u32) -> bool
+    ensures { λ r. ⌜ r ≡ unusedPadding op z y x ⌝ }
+{
+    !is_transposed(op) & !(is_default_padding(z) & is_default_padding(y) & is_default_padding(x))
 }
 
 fn unused_rounding(op: Op, rounding: Rounding) -> bool
@@ -79,20 +88,26 @@ fn pad_fault(first: u8, l: Layer) -> Fault
     let line = first as u32;
     let op = l.op;
     let axes = l.axes;
+    let z = l.z;
     let y = l.y;
     let x = l.x;
     let rounding = l.rounding;
     let axis = l.axis;
-    if hides(axes, y.pad_begin, Axis::PAD) {
+    if hides(axes, z.pad_begin, y.pad_begin, Axis::PAD) {
         return Fault::At(23, line + 7);
     }
-    if hides(axes, y.pad_end, Axis::PAD) {
+    if hides(axes, z.pad_end, y.pad_end, Axis::PAD) {
         return Fault::At(23, line + 8);
     }
-    if hides(axes, y.output_padding, Axis::OUTPUT_PADDING) {
+    if hides(
+        axes,
+        z.output_padding,
+        y.output_padding,
+        Axis::OUTPUT_PADDING,
+    ) {
         return Fault::At(23, line + 9);
     }
-    if unused_padding(op, y.output_padding, x.output_padding) {
+    if unused_padding(op, z.output_padding, y.output_padding, x.output_padding) {
         return Fault::At(23, line + 9);
     }
     if unused_rounding(op, rounding) {
@@ -108,23 +123,24 @@ pub fn fault_of(first: u8, l: Layer) -> Fault
     let line = first as u32;
     let op = l.op;
     let axes = l.axes;
+    let z = l.z;
     let y = l.y;
     if bad_axes(axes) {
         return Fault::At(21, line + 1);
     }
-    if hides(axes, y.input, Axis::SIZE) {
+    if hides(axes, z.input, y.input, Axis::SIZE) {
         return Fault::At(23, line + 2);
     }
-    if hides(axes, y.kernel, Axis::SIZE) {
+    if hides(axes, z.kernel, y.kernel, Axis::SIZE) {
         return Fault::At(23, line + 3);
     }
     if hides_sizes(op, l.g, l.o, l.i) {
         return Fault::At(23, line + 3);
     }
-    if hides(axes, y.stride, Axis::STRIDE) {
+    if hides(axes, z.stride, y.stride, Axis::STRIDE) {
         return Fault::At(23, line + 4);
     }
-    if hides(axes, y.dilation, Axis::DILATION) {
+    if hides(axes, z.dilation, y.dilation, Axis::DILATION) {
         return Fault::At(23, line + 5);
     }
     pad_fault(first, l)

@@ -27,6 +27,7 @@ pub record LayerFits (l : Layer) : Type 0 where
   pub g : U32 (l .g)
   pub o : U32 (l .o)
   pub i : U32 (l .i)
+  pub z : AxisFits (l .z)
   pub y : AxisFits (l .y)
   pub x : AxisFits (l .x)
 

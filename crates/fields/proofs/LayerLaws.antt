@@ -1,40 +1,45 @@
 -- Lists and layers: the lists of a layer can be read again, and a layer made of lists has those lists.
-use Prim.Native.Nat.{ℕ, suc, _+_, _-_, _≤_, _<_}
-use mathlib.Core.Path.{_≡_}
-use mathlib.Core.Logic.{_⊎_, ⊎-elim}
+use Prim.Native.Nat.{ℕ, zero, suc, _+_, _-_, _≤_, _<_}
+use mathlib.Core.Path.{_≡_, refl, sym}
 use mathlib.Core.Bool.{Bool, true, false, cond}
 use native.Mathlib.Omega.{arith}
-use lib.Dec.{eqb}
-use Rattle.text.specs.Lists.{oneItem, moreItem}
+use Rattle.text.specs.Lists.{oneItem, moreItem, laterItems}
 use Rattle.text.specs.declared.Items.{Items}
 use Rattle.text.proofs.ListLaws.{keep, InRange, more-range}
+use Rattle.layer.specs.Axes.{axesIn, usesY, usesZ}
 use Rattle.layer.specs.declared.Op.{Op}
 use Rattle.layer.specs.declared.Op.the-variants.{Convolution, Transposed, MaxPool}
-use Rattle.layer.specs.declared.Axis.{Axis}
-use Rattle.fields.specs.Layers.{inputNumbers, kernelNumbers, kernelOf, lastOf, yAxis, pairList, inputList, kernelList}
+use Rattle.layer.proofs.Tests.{within-both}
+use Rattle.fields.specs.Layers.{inputNumbers, kernelNumbers, kernelOf, perAxis, axisList, inputList, kernelList}
+use Rattle.fields.specs.declared.PerAxis.{PerAxis}
 use Rattle.fields.proofs.Fits.{U32}
 
 -- ---- the numbers of a layer's lists are in range
 one-range : (x : ℕ) → U32 x → InRange (oneItem x)
 one-range x h = record { a = h; b = omega arith; c = omega arith; d = omega arith; e = omega arith; f = omega arith }
 
-pair-range : (axes y x : ℕ) → U32 y → U32 x → InRange (pairList axes y x)
-pair-range axes y x h k = go (eqb axes 1)
+axis-range : (axes z y x : ℕ) → U32 z → U32 y → U32 x → InRange (axisList axes z y x)
+axis-range axes z y x hz hy hx = go (usesZ axes) (usesY axes)
   where
-    go : (b : Bool) → InRange (cond b (oneItem x) (moreItem y (oneItem x)))
-    go true = one-range x k
-    go false = more-range y (oneItem x) h (one-range x k)
+    two : InRange (moreItem y (oneItem x))
+    two = more-range y (oneItem x) hy (one-range x hx)
 
-pub input-range : (axes n c y x : ℕ) → U32 n → U32 c → U32 y → U32 x → InRange (inputList axes n c y x)
-input-range axes n c y x hn hc h k = more-range n _ hn (more-range c _ hc (pair-range axes y x h k))
+    go : (a b : Bool) → InRange (cond a (moreItem z (moreItem y (oneItem x))) (cond b (moreItem y (oneItem x)) (oneItem x)))
+    go true b = more-range z _ hz two
+    go false true = two
+    go false false = one-range x hx
 
-kernel-range : (op : Op) (axes g o i y x : ℕ) → U32 g → U32 o → U32 i → U32 y → U32 x → InRange (kernelList op axes g o i y x)
-kernel-range Convolution axes g o i y x hg ho hi h k = more-range g _ hg (more-range o _ ho (more-range i _ hi (pair-range axes y x h k)))
-kernel-range Transposed axes g o i y x hg ho hi h k =
-    more-range g _ hg (more-range _ _ (omega (arith, ho, hi)) (more-range _ _ (omega (arith, ho, hi)) (pair-range axes y x h k)))
-kernel-range MaxPool axes g o i y x hg ho hi h k = pair-range axes y x h k
+pub input-range : (axes n c z y x : ℕ) → U32 n → U32 c → U32 z → U32 y → U32 x → InRange (inputList axes n c z y x)
+input-range axes n c z y x hn hc hz hy hx = more-range n _ hn (more-range c _ hc (axis-range axes z y x hz hy hx))
 
--- ---- with one axis or two
+-- ---- the numbers of the axes and their list
+
+-- the first numbers of a list, as the axes have them, and the list of the axes' numbers
+abbrev pub onAxes : ℕ → ℕ → Items → PerAxis
+onAxes axes unused items = perAxis axes unused (items .a) (items .b) (items .c)
+
+abbrev pub listed : ℕ → PerAxis → Items
+listed axes p = axisList axes (p .z) (p .y) (p .x)
 
 -- a count from one to six
 abbrev pub Counted : ℕ → Type 0
@@ -44,17 +49,36 @@ Counted count = (k : ℕ) × (count ≡ suc k) × (k < 6)
 abbrev pub ListOk : ℕ → Items → Type 0
 ListOk count items = InRange items × (keep count items ≡ items)
 
-module _ (axes : ℕ) (o : (axes ≡ 1) ⊎ (axes ≡ 2)) where
-  -- what follows from either number of axes
-  by-axes : {G : Type 0} → (axes ≡ 1 → G) → (axes ≡ 2 → G) → G
-  by-axes f g = ⊎-elim f g o
+module _ (axes : ℕ) (h : axesIn axes ≡ true) where
+  -- what holds with one axis, with two and with three
+  pub by-axes : (P : ℕ → Type 0) → P 1 → P 2 → P 3 → P axes
+  by-axes P one two three = go axes (within-both 1 3 axes h)
+    where
+      go : (n : ℕ) → (1 ≤ n) × (n ≤ 3) → P n
+      go zero b = absurd (omega arith)
+      go (suc zero) b = one
+      go (suc (suc zero)) b = two
+      go (suc (suc (suc zero))) b = three
+      go (suc (suc (suc (suc n)))) b = absurd (omega arith)
+
+  -- Each gives the other back, where an axis that is not used is at its default and a number that is not shown is 0.
+  pub axes-again : (unused : ℕ) (p : PerAxis) → (usesZ axes ≡ false → p .z ≡ unused) → (usesY axes ≡ false → p .y ≡ unused)
+      → onAxes axes unused (listed axes p) ≡ p
+  axes-again unused p = by-axes
+      (λ n. (usesZ n ≡ false → p .z ≡ unused) → (usesY n ≡ false → p .y ≡ unused) → onAxes n unused (listed n p) ≡ p)
+      (λ hz hy i. record { z = sym (hz refl) i; y = sym (hy refl) i; x = p .x })
+      (λ hz hy i. record { z = sym (hz refl) i; y = p .y; x = p .x })
+      (λ hz hy. refl)
+
+  pub list-again : (unused : ℕ) (items : Items) → listed axes (onAxes axes unused items) ≡ keep axes items
+  list-again unused items = by-axes (λ n. listed n (onAxes n unused items) ≡ keep n items) refl refl refl
 
   -- ---- the counts
   counted : (count : ℕ) → axes ≤ count → count ≤ axes + 3 → Counted count
-  counted count h k = by-axes (λ e. (count - 1, omega arith, omega arith)) (λ e. (count - 1, omega arith, omega arith))
+  counted count l m = let b = within-both 1 3 axes h in (count - 1, omega arith, omega arith)
 
-  pub pair-counted : Counted axes
-  pair-counted = counted axes (omega arith) (omega arith)
+  pub axes-counted : Counted axes
+  axes-counted = counted axes (omega arith) (omega arith)
 
   pub input-counted : Counted (inputNumbers axes)
   input-counted = counted (axes + 2) (omega arith) (omega arith)
@@ -62,43 +86,47 @@ module _ (axes : ℕ) (o : (axes ≡ 1) ⊎ (axes ≡ 2)) where
   pub kernel-counted : (op : Op) → Counted (kernelNumbers op axes)
   kernel-counted Convolution = counted (axes + 3) (omega arith) (omega arith)
   kernel-counted Transposed = counted (axes + 3) (omega arith) (omega arith)
-  kernel-counted MaxPool = pair-counted
+  kernel-counted MaxPool = axes-counted
 
   -- ---- the lists of a layer
-  pub pair-ok : (y x : ℕ) → U32 y → U32 x → ListOk axes (pairList axes y x)
-  pair-ok y x h k = (pair-range axes y x h k, by-axes (λ e. rw e) (λ e. rw e))
+  module _ (z y x : ℕ) (hz : U32 z) (hy : U32 y) (hx : U32 x) where
+    pub axis-ok : ListOk axes (axisList axes z y x)
+    axis-ok = (axis-range axes z y x hz hy hx, by-axes (λ n. keep n (axisList n z y x) ≡ axisList n z y x) refl refl refl)
 
-  pub input-ok : (n c y x : ℕ) → U32 n → U32 c → U32 y → U32 x → ListOk (inputNumbers axes) (inputList axes n c y x)
-  input-ok n c y x hn hc h k = (input-range axes n c y x hn hc h k, by-axes (λ e. rw e) (λ e. rw e))
+    pub input-ok : (n c : ℕ) → U32 n → U32 c → ListOk (inputNumbers axes) (inputList axes n c z y x)
+    input-ok n c hn hc = (
+      input-range axes n c z y x hn hc hz hy hx,
+      by-axes (λ k. keep (inputNumbers k) (inputList k n c z y x) ≡ inputList k n c z y x) refl refl refl,
+    )
 
-  kept : (g o i y x : ℕ) → keep (axes + 3) (kernelList Convolution axes g o i y x) ≡ kernelList Convolution axes g o i y x
-  kept g o i y x = by-axes (λ e. rw e) (λ e. rw e)
+    more-ok : (a b c : ℕ) → U32 a → U32 b → U32 c → ListOk (axes + 3) (kernelList Convolution axes a b c z y x)
+    more-ok a b c ha hb hc = (
+      more-range a _ ha (more-range b _ hb (more-range c _ hc (axis-ok .0))),
+      by-axes (λ k. keep (k + 3) (kernelList Convolution k a b c z y x) ≡ kernelList Convolution k a b c z y x) refl refl refl,
+    )
 
-  pub kernel-ok : (op : Op) (g o i y x : ℕ) → U32 g → U32 o → U32 i → U32 y → U32 x → ListOk (kernelNumbers op axes) (kernelList op axes g o i y x)
-  kernel-ok op g o′ i y x hg ho hi h k = (kernel-range op axes g o′ i y x hg ho hi h k, go op)
-    where
-      go : (op : Op) → keep (kernelNumbers op axes) (kernelList op axes g o′ i y x) ≡ kernelList op axes g o′ i y x
-      go Convolution = kept g o′ i y x
-      go Transposed = kept _ _ _ y x
-      go MaxPool = pair-ok y x h k .1
+    pub kernel-ok : (op : Op) (g o i : ℕ) → U32 g → U32 o → U32 i → ListOk (kernelNumbers op axes) (kernelList op axes g o i z y x)
+    kernel-ok Convolution g o i hg ho hi = more-ok g o i hg ho hi
+    kernel-ok Transposed g o i hg ho hi = more-ok _ _ _ hg (omega (arith, ho, hi)) (omega (arith, ho, hi))
+    kernel-ok MaxPool g o i hg ho hi = axis-ok
 
-  -- ---- the lists of a layer that was made of lists
-  module _ (φ : Axis → ℕ) (items : Items) (unused used : Axis) where
-    pub pair-same : (axes ≡ 2 → φ used ≡ items .a) → keep axes items ≡ items
-        → pairList axes (φ (yAxis axes unused used)) (lastOf axes (items .a) (items .b)) ≡ items
-    pair-same h k = by-axes (λ e. rw e (rw e at k)) (λ e. rw (e, h e) (rw e at k))
+  -- ---- the lists of a layer that was made of lists, as `list-again`, with other numbers before those of the axes
+  pub input-again : (unused : ℕ) (items : Items) → let p = onAxes axes unused (laterItems (laterItems items)) in
+      inputList axes (items .a) (items .b) (p .z) (p .y) (p .x) ≡ keep (inputNumbers axes) items
+  input-again unused items = by-axes
+      (λ n. let p = onAxes n unused (laterItems (laterItems items)) in inputList n (items .a) (items .b) (p .z) (p .y) (p .x) ≡ keep (n + 2) items)
+      refl refl refl
 
-    pub input-same : (axes ≡ 2 → φ used ≡ items .c) → keep (inputNumbers axes) items ≡ items
-        → inputList axes (items .a) (items .b) (φ (yAxis axes unused used)) (lastOf axes (items .c) (items .d)) ≡ items
-    input-same h k = by-axes (λ e. rw e (rw e at k)) (λ e. rw (e, h e) (rw e at k))
+  more-again : (unused : ℕ) (items : Items) → let p = onAxes axes unused (laterItems (laterItems (laterItems items))) in
+      kernelList Convolution axes (items .a) (items .b) (items .c) (p .z) (p .y) (p .x) ≡ keep (axes + 3) items
+  more-again unused items = by-axes
+      (λ n. let p = onAxes n unused (laterItems (laterItems (laterItems items))) in
+      kernelList Convolution n (items .a) (items .b) (items .c) (p .z) (p .y) (p .x) ≡ keep (n + 3) items)
+      refl refl refl
 
-    more-same : (axes ≡ 2 → φ used ≡ items .d) → keep (axes + 3) items ≡ items
-        → kernelList Convolution axes (items .a) (items .b) (items .c) (φ (yAxis axes unused used)) (lastOf axes (items .d) (items .e)) ≡ items
-    more-same h k = by-axes (λ e. rw e (rw e at k)) (λ e. rw (e, h e) (rw e at k))
-
-  pub kernel-same : (op : Op) (φ : Axis → ℕ) (items : Items) (unused used : Axis) → let k = kernelOf op items in
-      (axes ≡ 2 → φ used ≡ k .first) → keep (kernelNumbers op axes) items ≡ items
-      → kernelList op axes (k .g) (k .o) (k .i) (φ (yAxis axes unused used)) (lastOf axes (k .first) (k .second)) ≡ items
-  kernel-same Convolution = more-same
-  kernel-same Transposed = more-same
-  kernel-same MaxPool = pair-same
+  pub kernel-again : (op : Op) (unused : ℕ) (items : Items) → let k = kernelOf op items in
+      let p = perAxis axes unused (k .first) (k .second) (k .third) in
+      kernelList op axes (k .g) (k .o) (k .i) (p .z) (p .y) (p .x) ≡ keep (kernelNumbers op axes) items
+  kernel-again Convolution = more-again
+  kernel-again Transposed = more-again
+  kernel-again MaxPool = list-again

@@ -1,10 +1,10 @@
 -- Lists of numbers and the layer: which number of a list is which field of the layer record, read and shown.
 use Prim.Native.Nat.{ℕ, _+_}
 use mathlib.Core.Bool.{cond}
-use lib.Dec.{eqb}
 use lib.IntN.{ℤ}
 use Rattle.text.specs.Lists.{oneItem, moreItem}
 use Rattle.text.specs.declared.Items.{Items}
+use Rattle.layer.specs.Axes.{usesY, usesZ}
 use Rattle.layer.specs.Defaults.{defaultAxis, defaultLayer, sizeDefault}
 use Rattle.layer.specs.declared.Op.{Op}
 use Rattle.layer.specs.declared.Op.the-variants.{Convolution, Transposed, MaxPool}
@@ -13,33 +13,35 @@ use Rattle.layer.specs.declared.Rounding.{Rounding}
 use Rattle.layer.specs.declared.Axis.{Axis}
 use Rattle.layer.specs.declared.Layer.{Layer}
 use Rattle.fields.specs.declared.Kernel.{Kernel}
+use Rattle.fields.specs.declared.PerAxis.{PerAxis}
 
 -- ---- from lists to a layer
 
--- "Input [N, C, Y, X]", "One axis means [N, C, X]", "With one axis each list is one shorter."
+-- "Input [N, C, Z, Y, X]", "Two axes mean [N, C, Y, X]", "One axis means [N, C, X]": "With one axis each list is one shorter, with three axes one longer, Z
+-- before Y"
 abbrev pub inputNumbers : ℕ → ℕ
 inputNumbers axes = axes + 2
 
--- "Convolution kernel [G, O, I, KY, KX], transposed kernel [G, I, O, KY, KX]", "and a kernel without KY", "maxpool has KY,KX alone"
+-- "Convolution kernel [G, O, I, KZ, KY, KX], transposed kernel [G, I, O, KZ, KY, KX]", "and a kernel without KZ", "and a kernel without KZ and KY", "maxpool
+-- has KZ,KY,KX alone, with fewer axes KY,KX or KX"
 abbrev pub kernelNumbers : Op → ℕ → ℕ
 kernelNumbers Convolution axes = axes + 3
 kernelNumbers Transposed axes = axes + 3
 kernelNumbers MaxPool axes = axes
 
--- "Kernel lists are as above; maxpool has KY,KX alone.": G, O and I, "1 for any size that is not used", and the two numbers that follow: KY and KX, with one
--- axis KX alone
+-- "Kernel lists are as above": G, O and I, "1 for any size that is not used", and the numbers that follow, one for each axis
 abbrev pub kernelOf : Op → Items → Kernel
-kernelOf Convolution items = record { g = items .a; o = items .b; i = items .c; first = items .d; second = items .e }
-kernelOf Transposed items = record { g = items .a; o = items .c; i = items .b; first = items .d; second = items .e }
-kernelOf MaxPool items = record { g = sizeDefault; o = sizeDefault; i = sizeDefault; first = items .a; second = items .b }
+kernelOf Convolution items = record { g = items .a; o = items .b; i = items .c; first = items .d; second = items .e; third = items .f }
+kernelOf Transposed items = record { g = items .a; o = items .c; i = items .b; first = items .d; second = items .e; third = items .f }
+kernelOf MaxPool items = record { g = sizeDefault; o = sizeDefault; i = sizeDefault; first = items .a; second = items .b; third = items .c }
 
--- X's number of the two that a list has for Y and X; with one axis the first
-abbrev pub lastOf : ℕ → ℕ → ℕ → ℕ
-lastOf axes first second = cond (eqb axes 1) first second
-
--- Y's axis: with one axis it is not used
-abbrev pub yAxis : ℕ → Axis → Axis → Axis
-yAxis axes unused used = cond (eqb axes 1) unused used
+-- The numbers of a list for the axes, first, second and third, as each axis has them: with three axes Z's, Y's and X's, with two Y's and X's, with one X's. An
+-- axis that is not used has its default.
+abbrev pub perAxis : ℕ → ℕ → ℕ → ℕ → ℕ → PerAxis
+perAxis axes unused first second third =
+    cond (usesZ axes) (record { z = first; y = second; x = third })
+    (cond (usesY axes) (record { z = unused; y = first; x = second })
+    (record { z = unused; y = unused; x = first }))
 
 abbrev pub withSizes : Axis → ℕ → ℕ → ℕ → ℕ → Axis
 withSizes base input kernel stride dilation =
@@ -66,28 +68,35 @@ withPads base begin end padding =
     }
 
 -- what lines 1 to 6 say of a layer; all else is at its default
-abbrev pub sizedLayer : Op → ℕ → Items → Items → Items → Items → Layer
+unfoldable pub sizedLayer : Op → ℕ → Items → Items → Items → Items → Layer
 sizedLayer op axes input kernel strides dilations =
+    let k = kernelOf op kernel in
+    let sizeOn = perAxis axes (defaultAxis .input) (input .c) (input .d) (input .e) in
+    let kernelOn = perAxis axes (defaultAxis .kernel) (k .first) (k .second) (k .third) in
+    let strideOn = perAxis axes (defaultAxis .stride) (strides .a) (strides .b) (strides .c) in
+    let dilationOn = perAxis axes (defaultAxis .dilation) (dilations .a) (dilations .b) (dilations .c) in
     record {
       op = op;
       axes = axes;
       n = input .a;
       c = input .b;
-      g = kernelOf op kernel .g;
-      o = kernelOf op kernel .o;
-      i = kernelOf op kernel .i;
-      y = yAxis axes defaultAxis (withSizes defaultAxis (input .c) (kernelOf op kernel .first) (strides .a) (dilations .a));
-      x =
-          withSizes defaultAxis (lastOf axes (input .c) (input .d)) (lastOf axes (kernelOf op kernel .first) (kernelOf op kernel .second))
-          (lastOf axes (strides .a) (strides .b)) (lastOf axes (dilations .a) (dilations .b));
+      g = k .g;
+      o = k .o;
+      i = k .i;
+      z = withSizes defaultAxis (sizeOn .z) (kernelOn .z) (strideOn .z) (dilationOn .z);
+      y = withSizes defaultAxis (sizeOn .y) (kernelOn .y) (strideOn .y) (dilationOn .y);
+      x = withSizes defaultAxis (sizeOn .x) (kernelOn .x) (strideOn .x) (dilationOn .x);
       «auto_pad» = defaultLayer op axes .«auto_pad»;
       rounding = defaultLayer op axes .rounding;
       axis = defaultLayer op axes .axis;
     }
 
 -- the same layer with what lines 7 to 12 say
-abbrev pub paddedLayer : Layer → AutoPad → Items → Items → Items → Rounding → ℤ → Layer
+unfoldable pub paddedLayer : Layer → AutoPad → Items → Items → Items → Rounding → ℤ → Layer
 paddedLayer l mode begin end padding rounding axis =
+    let beginOn = perAxis (l .axes) (defaultAxis .«pad_begin») (begin .a) (begin .b) (begin .c) in
+    let endOn = perAxis (l .axes) (defaultAxis .«pad_end») (end .a) (end .b) (end .c) in
+    let paddingOn = perAxis (l .axes) (defaultAxis .«output_padding») (padding .a) (padding .b) (padding .c) in
     record {
       op = l .op;
       axes = l .axes;
@@ -96,10 +105,9 @@ paddedLayer l mode begin end padding rounding axis =
       g = l .g;
       o = l .o;
       i = l .i;
-      y = yAxis (l .axes) (l .y) (withPads (l .y) (begin .a) (end .a) (padding .a));
-      x =
-          withPads (l .x) (lastOf (l .axes) (begin .a) (begin .b)) (lastOf (l .axes) (end .a) (end .b))
-          (lastOf (l .axes) (padding .a) (padding .b));
+      z = withPads (l .z) (beginOn .z) (endOn .z) (paddingOn .z);
+      y = withPads (l .y) (beginOn .y) (endOn .y) (paddingOn .y);
+      x = withPads (l .x) (beginOn .x) (endOn .x) (paddingOn .x);
       «auto_pad» = mode;
       rounding = rounding;
       axis = axis;
@@ -107,16 +115,19 @@ paddedLayer l mode begin end padding rounding axis =
 
 -- ---- from a layer to lists
 
--- Y's and X's number; with one axis X's alone
-abbrev pub pairList : ℕ → ℕ → ℕ → Items
-pairList axes y x = cond (eqb axes 1) (oneItem x) (moreItem y (oneItem x))
+-- Z's, Y's and X's number, "Z before Y"; of the axes that are used alone
+abbrev pub axisList : ℕ → ℕ → ℕ → ℕ → Items
+axisList axes z y x =
+    cond (usesZ axes) (moreItem z (moreItem y (oneItem x)))
+    (cond (usesY axes) (moreItem y (oneItem x))
+    (oneItem x))
 
--- N, C, Y, X
-abbrev pub inputList : ℕ → ℕ → ℕ → ℕ → ℕ → Items
-inputList axes n c y x = moreItem n (moreItem c (pairList axes y x))
+-- N, C, Z, Y, X
+abbrev pub inputList : ℕ → ℕ → ℕ → ℕ → ℕ → ℕ → Items
+inputList axes n c z y x = moreItem n (moreItem c (axisList axes z y x))
 
--- G, O, I, KY, KX; transposed G, I, O, KY, KX; maxpool KY, KX
-abbrev pub kernelList : Op → ℕ → ℕ → ℕ → ℕ → ℕ → ℕ → Items
-kernelList Convolution axes g o i y x = moreItem g (moreItem o (moreItem i (pairList axes y x)))
-kernelList Transposed axes g o i y x = moreItem g (moreItem i (moreItem o (pairList axes y x)))
-kernelList MaxPool axes g o i y x = pairList axes y x
+-- G, O, I, KZ, KY, KX; transposed G, I, O, KZ, KY, KX; maxpool KZ, KY, KX
+abbrev pub kernelList : Op → ℕ → ℕ → ℕ → ℕ → ℕ → ℕ → ℕ → Items
+kernelList Convolution axes g o i z y x = moreItem g (moreItem o (moreItem i (axisList axes z y x)))
+kernelList Transposed axes g o i z y x = moreItem g (moreItem i (moreItem o (axisList axes z y x)))
+kernelList MaxPool axes g o i z y x = axisList axes z y x

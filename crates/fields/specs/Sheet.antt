@@ -11,7 +11,7 @@ use Rattle.layer.specs.declared.Layer.{Layer}
 use Rattle.values.specs.Kinds.{opOf, opItems, autoPadOf, autoPadItems, roundingOf, roundingItems, axisOf, axisItems}
 use Rattle.values.specs.declared.Field.the-variants.{OpWord, AxesNumber, NumberList, AutoPadWord, RoundingWord, AxisDigit}
 use Rattle.lines.specs.Form.{Form, line, layer, showForm}
-use Rattle.fields.specs.Layers.{inputNumbers, kernelNumbers, sizedLayer, paddedLayer, inputList, kernelList, pairList}
+use Rattle.fields.specs.Layers.{inputNumbers, kernelNumbers, sizedLayer, paddedLayer, inputList, kernelList, axisList}
 
 -- a line that every operator uses
 abbrev pub always : Bool
@@ -69,14 +69,14 @@ unfoldable pub sheetValues : Layer → List Items
 sheetValues l =
     opItems (l .op) ∷
     oneItem (l .axes) ∷
-    inputList (l .axes) (l .n) (l .c) (l .y .input) (l .x .input) ∷
-    kernelList (l .op) (l .axes) (l .g) (l .o) (l .i) (l .y .kernel) (l .x .kernel) ∷
-    pairList (l .axes) (l .y .stride) (l .x .stride) ∷
-    pairList (l .axes) (l .y .dilation) (l .x .dilation) ∷
+    inputList (l .axes) (l .n) (l .c) (l .z .input) (l .y .input) (l .x .input) ∷
+    kernelList (l .op) (l .axes) (l .g) (l .o) (l .i) (l .z .kernel) (l .y .kernel) (l .x .kernel) ∷
+    axisList (l .axes) (l .z .stride) (l .y .stride) (l .x .stride) ∷
+    axisList (l .axes) (l .z .dilation) (l .y .dilation) (l .x .dilation) ∷
     autoPadItems (l .«auto_pad») ∷
-    pairList (l .axes) (l .y .«pad_begin») (l .x .«pad_begin») ∷
-    pairList (l .axes) (l .y .«pad_end») (l .x .«pad_end») ∷
-    pairList (l .axes) (l .y .«output_padding») (l .x .«output_padding») ∷
+    axisList (l .axes) (l .z .«pad_begin») (l .y .«pad_begin») (l .x .«pad_begin») ∷
+    axisList (l .axes) (l .z .«pad_end») (l .y .«pad_end») (l .x .«pad_end») ∷
+    axisList (l .axes) (l .z .«output_padding») (l .y .«output_padding») (l .x .«output_padding») ∷
     roundingItems (l .rounding) ∷
     axisItems (l .axis) ∷
     []

@@ -4,19 +4,29 @@ use layer::Axis;
 use layer::Layer;
 use layer::Op;
 use layer::Rounding;
+use layer::uses_y;
+use layer::uses_z;
 use text::Items;
 use text::more_item;
 use text::one_item;
 ghost use mathlib.Core.Path.{_≡_};
-ghost use Rattle.fields.specs.Layers.{kernelNumbers, kernelOf, lastOf, yAxis, withSizes, withPads, sizedLayer, paddedLayer, pairList, inputList, kernelList};
+ghost use Rattle.fields.specs.Layers.{kernelNumbers, kernelOf, perAxis, withSizes, withPads, sizedLayer, paddedLayer, axisList, inputList, kernelList};
 
-// The kernel's sizes: first and second are the numbers that stand last in its list.
+// The kernel's sizes: first, second and third are the numbers that stand last in its list, one for each axis.
 struct Kernel {
     pub g: u32,
     pub o: u32,
     pub i: u32,
     pub first: u32,
     pub second: u32,
+    pub third: u32,
+}
+
+// One number for each axis.
+pub struct PerAxis {
+    pub z: u32,
+    pub y: u32,
+    pub x: u32,
 }
 
 // ---- the layer of lists
@@ -41,6 +51,7 @@ fn kernel_of(op: Op, items: Items) -> Kernel
             i: items.c,
             first: items.d,
             second: items.e,
+            third: items.f,
         },
         Op::Transposed => Kernel {
             g: items.a,
@@ -48,6 +59,7 @@ fn kernel_of(op: Op, items: Items) -> Kernel
             i: items.b,
             first: items.d,
             second: items.e,
+            third: items.f,
         },
         Op::MaxPool => Kernel {
             g: Layer::SIZE,
@@ -55,23 +67,34 @@ fn kernel_of(op: Op, items: Items) -> Kernel
             i: Layer::SIZE,
             first: items.a,
             second: items.b,
+            third: items.c,
         },
     }
 }
 
-fn last_of(axes: u32, first: u32, second: u32) -> u32
-    ensures { λ r. ⌜ r ≡ lastOf axes first second ⌝ }
+// The numbers of a list as the axes have them: an axis that is not used has its default.
+fn per_axis(axes: u32, unused: u32, first: u32, second: u32, third: u32) -> PerAxis
+    ensures { λ r. ⌜ r ≡ perAxis axes unused first second third ⌝ }
 {
-    if axes == 1 { first } else { second }
-}
-
-fn y_axis(axes: u32, unused: Axis, used: Axis) -> Axis
-    ensures { λ r. ⌜ r ≡ yAxis axes unused used ⌝ }
-{
-    if axes == 1 {
-        return unused;
+    if uses_z(axes) {
+        return PerAxis {
+            z: first,
+            y: second,
+            x: third,
+        };
     }
-    used
+    if uses_y(axes) {
+        return PerAxis {
+            z: unused,
+            y: first,
+            x: second,
+        };
+    }
+    PerAxis {
+        z: unused,
+        y: unused,
+        x: first,
+    }
 }
 
 fn with_sizes(base: Axis, input: u32, kernel: u32, stride: u32, dilation: u32) -> Axis
@@ -114,21 +137,17 @@ pub fn sized_layer(
     ensures { λ r. ⌜ r ≡ sizedLayer op axes input kernel strides dilations ⌝ }
 {
     let base = Layer::new(op, axes);
-    let unused = base.y;
     let auto_pad = base.auto_pad;
     let rounding = base.rounding;
     let axis = base.axis;
     let k = kernel_of(op, kernel);
-    let input_x = last_of(axes, input.c, input.d);
-    let kernel_x = last_of(axes, k.first, k.second);
-    let stride_x = last_of(axes, strides.a, strides.b);
-    let dilation_x = last_of(axes, dilations.a, dilations.b);
-    let x = with_sizes(base.x, input_x, kernel_x, stride_x, dilation_x);
-    let y = y_axis(
-        axes,
-        unused,
-        with_sizes(unused, input.c, k.first, strides.a, dilations.a),
-    );
+    let size_on = per_axis(axes, Axis::SIZE, input.c, input.d, input.e);
+    let kernel_on = per_axis(axes, Axis::SIZE, k.first, k.second, k.third);
+    let stride_on = per_axis(axes, Axis::STRIDE, strides.a, strides.b, strides.c);
+    let dilation_on = per_axis(axes, Axis::DILATION, dilations.a, dilations.b, dilations.c);
+    let z = with_sizes(base.z, size_on.z, kernel_on.z, stride_on.z, dilation_on.z);
+    let y = with_sizes(base.y, size_on.y, kernel_on.y, stride_on.y, dilation_on.y);
+    let x = with_sizes(base.x, size_on.x, kernel_on.x, stride_on.x, dilation_on.x);
     Layer {
         op: op,
         axes: axes,
@@ -137,6 +156,7 @@ pub fn sized_layer(
         g: k.g,
         o: k.o,
         i: k.i,
+        z: z,
         y: y,
         x: x,
         auto_pad: auto_pad,
@@ -159,12 +179,12 @@ pub fn padded_layer(
 {
     let op = l.op;
     let axes = l.axes;
-    let unused = l.y;
-    let begin_x = last_of(axes, begin.a, begin.b);
-    let end_x = last_of(axes, end.a, end.b);
-    let padding_x = last_of(axes, padding.a, padding.b);
-    let x = with_pads(l.x, begin_x, end_x, padding_x);
-    let y = y_axis(axes, unused, with_pads(unused, begin.a, end.a, padding.a));
+    let begin_on = per_axis(axes, Axis::PAD, begin.a, begin.b, begin.c);
+    let end_on = per_axis(axes, Axis::PAD, end.a, end.b, end.c);
+    let padding_on = per_axis(axes, Axis::OUTPUT_PADDING, padding.a, padding.b, padding.c);
+    let z = with_pads(l.z, begin_on.z, end_on.z, padding_on.z);
+    let y = with_pads(l.y, begin_on.y, end_on.y, padding_on.y);
+    let x = with_pads(l.x, begin_on.x, end_on.x, padding_on.x);
     Layer {
         op: op,
         axes: axes,
@@ -173,6 +193,7 @@ pub fn padded_layer(
         g: l.g,
         o: l.o,
         i: l.i,
+        z: z,
         y: y,
         x: x,
         auto_pad: mode,
@@ -183,28 +204,31 @@ pub fn padded_layer(
 
 // ---- the lists of a layer
 
-pub fn pair_list(axes: u32, y: u32, x: u32) -> Items
-    ensures { λ r. ⌜ r ≡ pairList axes y x ⌝ }
+pub fn axis_list(axes: u32, z: u32, y: u32, x: u32) -> Items
+    ensures { λ r. ⌜ r ≡ axisList axes z y x ⌝ }
 {
-    if axes == 1 {
-        return one_item(x);
+    if uses_z(axes) {
+        return more_item(z, more_item(y, one_item(x)));
     }
-    more_item(y, one_item(x))
+    if uses_y(axes) {
+        return more_item(y, one_item(x));
+    }
+    one_item(x)
 }
 
-pub fn input_list(axes: u32, n: u32, c: u32, y: u32, x: u32) -> Items
-    ensures { λ r. ⌜ r ≡ inputList axes n c y x ⌝ }
+pub fn input_list(axes: u32, n: u32, c: u32, z: u32, y: u32, x: u32) -> Items
+    ensures { λ r. ⌜ r ≡ inputList axes n c z y x ⌝ }
 {
-    more_item(n, more_item(c, pair_list(axes, y, x)))
+    more_item(n, more_item(c, axis_list(axes, z, y, x)))
 }
 
-pub fn kernel_list(op: Op, axes: u32, g: u32, o: u32, i: u32, y: u32, x: u32) -> Items
-    ensures { λ r. ⌜ r ≡ kernelList op axes g o i y x ⌝ }
+pub fn kernel_list(op: Op, axes: u32, g: u32, o: u32, i: u32, z: u32, y: u32, x: u32) -> Items
+    ensures { λ r. ⌜ r ≡ kernelList op axes g o i z y x ⌝ }
 {
-    let p = pair_list(axes, y, x);
+    let last = axis_list(axes, z, y, x);
     match op {
-        Op::Convolution => more_item(g, more_item(o, more_item(i, p))),
-        Op::Transposed => more_item(g, more_item(i, more_item(o, p))),
-        Op::MaxPool => p,
+        Op::Convolution => more_item(g, more_item(o, more_item(i, last))),
+        Op::Transposed => more_item(g, more_item(i, more_item(o, last))),
+        Op::MaxPool => last,
     }
 }

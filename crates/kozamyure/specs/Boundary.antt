@@ -65,10 +65,10 @@ poolIndices (Refused number line) input values indices = indices
 -- ---- the output's sizes, by checks 1 to 7 of the sheet's own operator
 
 abbrev pub noShape : ℕ → ℕ → ShapeAnswer
-noShape number line = record { number = number; line = line; axes = 0; n = 0; c = 0; y = 0; x = 0 }
+noShape number line = record { number = number; line = line; axes = 0; n = 0; c = 0; z = 0; y = 0; x = 0 }
 
 abbrev pub sizesShape : ℕ → OutputSizes → ShapeAnswer
-sizesShape axes (Sizes o) = record { number = 0; line = 0; axes = axes; n = o .n; c = o .c; y = o .y; x = o .x }
+sizesShape axes (Sizes o) = record { number = 0; line = 0; axes = axes; n = o .n; c = o .c; z = o .z; y = o .y; x = o .x }
 sizesShape axes (NoSizes number) = noShape number 0
 
 unfoldable pub shapeAnswer : Read → ShapeAnswer
@@ -119,7 +119,7 @@ unfoldable pub rewriteBuffer : Read → List ℕ → List ℕ
 rewriteBuffer (Sheet l) buffer = bufferAfter l buffer
 rewriteBuffer (Refused number line) buffer = buffer
 
--- ---- the version of the library, 1.3.0
+-- ---- the version of the library, 2.0.0
 
 abbrev pub version : ℕ
-version = 1 * 10000 + 3 * 100 + 0
+version = 2 * 10000 + 0 * 100 + 0

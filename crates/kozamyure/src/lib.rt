@@ -36,7 +36,7 @@ pub struct CallAnswer {
     pub bad: usize,
 }
 
-// The sizes of an output; zeros but for number and line where the sheet or the layer is refused.
+// The sizes of an output, 1 along an axis that is not used; zeros but for number and line where the sheet or the layer is refused.
 #[repr(C)]
 pub struct ShapeAnswer {
     pub number: u32,
@@ -44,6 +44,7 @@ pub struct ShapeAnswer {
     pub axes: u32,
     pub n: u32,
     pub c: u32,
+    pub z: u32,
     pub y: u32,
     pub x: u32,
 }
@@ -169,6 +170,7 @@ fn no_shape(number: u32, line: u32) -> ShapeAnswer
         axes: 0,
         n: 0,
         c: 0,
+        z: 0,
         y: 0,
         x: 0,
     }
@@ -186,6 +188,7 @@ fn layer_shape(layer: Layer) -> ShapeAnswer
             axes: layer.axes,
             n: o.n,
             c: o.c,
+            z: o.z,
             y: o.y,
             x: o.x,
         },
@@ -259,14 +262,16 @@ pub extern "C" fn koza_plane(
     tensor: &[f32],
     n: u32,
     c: u32,
+    z: u32,
     y: u32,
     x: u32,
     image: u32,
     channel: u32,
+    depth: u32,
 ) -> PlanePart
-    ensures { λ r. ⌜ r ≡ planePart (partOf (length (now (tensor .entry))) n c y x image channel) ⌝ }
+    ensures { λ r. ⌜ r ≡ planePart (partOf (length (now (tensor .entry))) n c z y x image channel depth) ⌝ }
 {
-    let part = plane_part(tensor.len(), n, c, y, x, image, channel);
+    let part = plane_part(tensor.len(), n, c, z, y, x, image, channel, depth);
     PlanePart {
         start: part.start,
         length: part.length,
@@ -319,5 +324,5 @@ pub extern "C" fn koza_rewrite(sheet: &[u8], buffer: &mut [u8]) -> SheetWritten
 pub extern "C" fn koza_version() -> u32
     ensures { λ r. ⌜ r ≡ version ⌝ }
 {
-    10300
+    20000
 }

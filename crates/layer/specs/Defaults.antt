@@ -40,6 +40,7 @@ defaultLayer op axes =
       g = sizeDefault;
       o = sizeDefault;
       i = sizeDefault;
+      z = defaultAxis;
       y = defaultAxis;
       x = defaultAxis;
       «auto_pad» = autoPadDefault;

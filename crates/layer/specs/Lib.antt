@@ -1,4 +1,5 @@
 pub mod Kinds
 pub mod Limits
+pub mod Axes
 pub mod Defaults
 pub mod Answers

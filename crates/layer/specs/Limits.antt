@@ -1,7 +1,7 @@
 -- The limits of document 01, "Tensors and numbers": each a test of one number.
-use Prim.Native.Nat.{ℕ}
-use mathlib.Core.Bool.{Bool, _&&_, cond}
-use lib.Dec.{leb, eqb}
+use Prim.Native.Nat.{ℕ, _+_}
+use mathlib.Core.Bool.{Bool, _&&_}
+use lib.Dec.{leb}
 use lib.IntN.{ℤ, pos, negℤ}
 use lib.Signed.{leZ, ltZ}
 
@@ -17,11 +17,11 @@ imagesOk n = within 1 16 n
 abbrev pub channelsOk : ℕ → Bool
 channelsOk c = within 1 1024 c
 
--- "Y, X 1..4,096"
+-- "Z, Y, X 1..4,096"
 abbrev pub sizeOk : ℕ → Bool
-sizeOk y = within 1 4096 y
+sizeOk size = within 1 4096 size
 
--- "KY, KX 1..64"
+-- "KZ, KY, KX 1..64"
 abbrev pub kernelOk : ℕ → Bool
 kernelOk k = within 1 64 k
 
@@ -37,7 +37,7 @@ padOk p = leb p 1024
 abbrev pub outputPaddingOk : ℕ → Bool
 outputPaddingOk p = leb p 15
 
--- "taps K = I·KY·KX at most 4,096"
+-- "taps K = I·KZ·KY·KX at most 4,096"
 abbrev pub tapsOk : ℕ → Bool
 tapsOk k = leb k 4096
 
@@ -45,9 +45,9 @@ tapsOk k = leb k 4096
 abbrev pub elementsOk : ℕ → Bool
 elementsOk n = leb n 16777216
 
--- "axis runs from -R to R - 1, R being 3 or 4": 3 with one spatial axis, 4 with two
+-- "axis runs from -R to R - 1, R being the number of axes plus 2"
 abbrev pub rank : ℕ → ℕ
-rank axes = cond (eqb axes 1) 3 4
+rank axes = axes + 2
 
 abbrev pub axisOk : ℕ → ℤ → Bool
 axisOk axes z = leZ (negℤ (pos (rank axes))) z && ltZ z (pos (rank axes))

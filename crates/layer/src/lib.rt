@@ -1,6 +1,7 @@
 // The layer record: what a layer sheet says of one layer, with its limits and defaults, and the answer record of a call.
 ghost use mathlib.Core.Path.{_≡_};
 ghost use Rattle.layer.specs.Kinds.{isPool, isTransposed, isConvolution, sameOp, isExplicit, isSame, isFloor, isCeil, sameRounding};
+ghost use Rattle.layer.specs.Axes.{axesIn, usesY, usesZ};
 ghost use Rattle.layer.specs.Limits.{within, imagesOk, channelsOk, sizeOk, kernelOk, stepOk, padOk, outputPaddingOk, tapsOk, elementsOk, axisOk};
 ghost use Rattle.layer.specs.Defaults.{defaultAxis, defaultLayer, isDefaultRounding, isDefaultAxisAttribute};
 ghost use Rattle.layer.specs.Answers.{numbered, badElement};
@@ -34,7 +35,8 @@ pub struct Axis {
     pub output_padding: u32,
 }
 
-// A layer. The input is [n, c, y, x], the kernel [g, o, i, ky, kx] or, transposed, [g, i, o, ky, kx]. With one axis y is not used.
+// A layer. The input is [n, c, z, y, x], the kernel [g, o, i, kz, ky, kx] or, transposed, [g, i, o, kz, ky, kx]. With two axes z is not used, with one
+// neither z nor y.
 pub struct Layer {
     pub op: Op,
     pub axes: u32,
@@ -43,6 +45,7 @@ pub struct Layer {
     pub g: u32,
     pub o: u32,
     pub i: u32,
+    pub z: Axis,
     pub y: Axis,
     pub x: Axis,
     pub auto_pad: AutoPad,
@@ -107,6 +110,7 @@ impl Layer {
             g: Layer::SIZE,
             o: Layer::SIZE,
             i: Layer::SIZE,
+            z: Axis::new(),
             y: Axis::new(),
             x: Axis::new(),
             auto_pad: Layer::AUTO_PAD,
@@ -236,6 +240,27 @@ fn same_rounding(a: Rounding, b: Rounding) -> bool
     }
 }
 
+// ---- axes
+
+// Whether a layer can have so many spatial axes.
+pub fn axes_in(axes: u32) -> bool
+    ensures { λ r. ⌜ r ≡ axesIn axes ⌝ }
+{
+    inside(1, 3, axes)
+}
+
+pub fn uses_y(axes: u32) -> bool
+    ensures { λ r. ⌜ r ≡ usesY axes ⌝ }
+{
+    2 <= axes
+}
+
+pub fn uses_z(axes: u32) -> bool
+    ensures { λ r. ⌜ r ≡ usesZ axes ⌝ }
+{
+    3 <= axes
+}
+
 // ---- limits
 
 fn inside(lo: u32, hi: u32, v: u32) -> bool
@@ -256,10 +281,10 @@ pub fn channels_ok(c: u32) -> bool
     inside(1, 1024, c)
 }
 
-pub fn size_ok(y: u32) -> bool
-    ensures { λ r. ⌜ r ≡ sizeOk y ⌝ }
+pub fn size_ok(size: u32) -> bool
+    ensures { λ r. ⌜ r ≡ sizeOk size ⌝ }
 {
-    inside(1, 4096, y)
+    inside(1, 4096, size)
 }
 
 pub fn kernel_ok(k: u32) -> bool
@@ -299,15 +324,13 @@ pub fn elements_ok(n: usize) -> bool
     n <= 16777216
 }
 
-// Pooling's axis: from -R to R - 1, R being 3 with one spatial axis and 4 with two.
+// Pooling's axis: from -R to R - 1, R being the number of spatial axes plus 2.
 pub fn axis_ok(axes: u32, axis: i32) -> bool
     ensures { λ r. ⌜ r ≡ axisOk axes axis ⌝ }
 {
-    if axes == 1 {
-        (-3 <= axis) & (axis < 3)
-    } else {
-        (-4 <= axis) & (axis < 4)
-    }
+    let rank = axes as i64 + 2;
+    let at = axis as i64;
+    (-rank <= at) & (at < rank)
 }
 
 // ---- defaults: pooling's rounding and axis are at theirs where no pooling uses them

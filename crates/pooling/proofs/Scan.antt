@@ -16,7 +16,7 @@ use Rattle.sizes.proofs.Joins.{forward-below, below-at}
 use Rattle.shape.specs.declared.Shape.{Shape}
 use Rattle.shape.specs.Facts.{Sound}
 use Rattle.shape.specs.Volumes.{inputRows, kernelRows, outRows, outVolume, inputVolume, onRows, onPlane}
-use Rattle.shape.proofs.Volumes.{plane-at, rows-below}
+use Rattle.shape.proofs.Volumes.{plane-at, rows-at, rows-below}
 use Rattle.tensor.specs.declared.Window.{Window}
 use Rattle.tensor.specs.declared.Window.the-variants.{Empty}
 use Rattle.tensor.specs.Window.{bestOf, betterOf}
@@ -79,8 +79,7 @@ both-at size r Outside f = refl
 
 both-outside : (size : ℕ) (t : Tap) (f : ℕ → List ℕ) → atTap f (both size Outside t) ≡ []
 unfolding both
-both-outside size (At c) f = refl
-both-outside size Outside f = refl
+both-outside size t f = refl
 
 row-inside : (size r m : ℕ) (tap : ℕ → Tap) (f : ℕ → List ℕ) → overTaps (λ j. both size (At r) (tap j)) f m ≡ overTaps tap (λ c. f (r * size + c)) m
 unfolding overTaps
@@ -96,20 +95,33 @@ over-row : (size m : ℕ) (row : Tap) (tap : ℕ → Tap) (f : ℕ → List ℕ)
 over-row size m (At r) tap f = row-inside size r m tap f
 over-row size m Outside tap f = row-outside size m tap f
 
--- ---- the kernel's positions are its rows, one after the other
-module _ (s : Shape) (p : ℕ) {q : ℕ} (hq : q < s .x .out) (f : ℕ → List ℕ) where
-  abbrev pub rowPlaces : ℕ → List ℕ
-  rowPlaces r = overTaps (forward (s .x) q) (λ c. f (r * s .x .input + c)) (s .x .kernel)
-
-  pub over-rows : (n : ℕ) → overTaps (onPlane forward s (p * s .x .out + q)) f (n * s .x .kernel) ≡ overTaps (onRows forward s p) rowPlaces n
+-- ---- two axes as one, the inner with m taps and `size` positions: the taps of the inner axis, once for each of the outer
+module _ (m size : ℕ) (tap outer inner : ℕ → Tap) (is : (a b : ℕ) → b < m → tap (a * m + b) ≡ both size (outer a) (inner b)) (f : ℕ → List ℕ) where
+  pub over-both : (n : ℕ) → overTaps tap f (n * m) ≡ overTaps outer (λ r. overTaps inner (λ c. f (r * size + c)) m) n
   unfolding overTaps
-  over-rows zero = rw zero-mul
-  over-rows (suc n) =
+  over-both zero = rw zero-mul
+  over-both (suc n) =
       rw suc-mul
-      (over-append (n * s .x .kernel) (s .x .kernel) (onPlane forward s (p * s .x .out + q)) f
-      ∙ ap₂ (λ (a b : List ℕ). a ++ b) (over-rows n)
-      (over-same (s .x .kernel) _ (λ j. both (s .x .input) (onRows forward s p n) (forward (s .x) q j)) f (λ j l. plane-at forward s p n hq l)
-      ∙ over-row (s .x .input) (s .x .kernel) (onRows forward s p n) (forward (s .x) q) f))
+      (over-append (n * m) m tap f
+      ∙ ap₂ (λ (a b : List ℕ). a ++ b) (over-both n)
+      (over-same m _ (λ j. both size (outer n) (inner j)) f (λ j l. is n j l)
+      ∙ over-row size m (outer n) inner f))
+
+-- the kernel's positions are its rows, one after the other
+pub over-rows : (s : Shape) (p : ℕ) {q : ℕ} → q < s .x .out → (f : ℕ → List ℕ) (n : ℕ)
+    → overTaps (onPlane forward s (p * s .x .out + q)) f (n * s .x .kernel)
+    ≡ overTaps (onRows forward s p) (λ r. overTaps (forward (s .x) q) (λ c. f (r * s .x .input + c)) (s .x .kernel)) n
+over-rows s p {q} hq f n =
+    over-both (s .x .kernel) (s .x .input) (onPlane forward s (p * s .x .out + q)) (onRows forward s p) (forward (s .x) q)
+    (λ a b l. plane-at forward s p a hq l) f n
+
+-- and a kernel's rows those of its depths
+pub over-depths : (s : Shape) (z : ℕ) {y : ℕ} → y < s .y .out → (f : ℕ → List ℕ) (n : ℕ)
+    → overTaps (onRows forward s (z * s .y .out + y)) f (n * s .y .kernel)
+    ≡ overTaps (forward (s .z) z) (λ r. overTaps (forward (s .y) y) (λ c. f (r * s .y .input + c)) (s .y .kernel)) n
+over-depths s z {y} hy f n =
+    over-both (s .y .kernel) (s .y .input) (onRows forward s (z * s .y .out + y)) (forward (s .z) z) (forward (s .y) y)
+    (λ a b l. rows-at forward s z a hy l) f n
 
 -- ---- rows as parts of the input
 

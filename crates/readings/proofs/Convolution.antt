@@ -1,5 +1,5 @@
--- Convolution in document 01's words: the places of its taps, for output (n, group g, o, y, x) and tap (i, ky, kx), each at its row-major number, and the sum
--- over them by three nested loops.
+-- Convolution in document 01's words: the places of its taps, for output (n, group g, o, z, y, x) and tap (i, kz, ky, kx), each at its row-major number, and
+-- the sum over them by four nested loops.
 use mathlib.Core.Path.{_≡_, sym, ap, _∙_}
 use mathlib.Core.List.{List}
 use Prim.Native.Nat.{ℕ, _+_, _*_, _≤_, _<_}
@@ -8,18 +8,17 @@ use borrow.Author.Tests.{eqb-true, eq-eqb}
 use lib.Ieee.{Float}
 use Rattle.sizes.specs.declared.Span.{Span}
 use Rattle.sizes.specs.declared.Tap.the-variants.{At}
-use Rattle.sizes.specs.Joins.{joins, forward, both}
+use Rattle.sizes.specs.Joins.{joins, forward}
 use Rattle.sizes.proofs.Joins.{forward-finds, finds-at, at-finds}
 use Rattle.shape.specs.declared.Shape.{Shape}
 use Rattle.shape.specs.Facts.{Grouped}
 use Rattle.shape.specs.Volumes.{kernelRows}
 use Rattle.tensor.specs.Table.{plusZero}
 use Rattle.sums.specs.Taps.{Place, outside, at, tapAt, addTap, outputOf}
-use Rattle.call.proofs.Planes.{line-flat}
 use Rattle.convolution.specs.Convolution.{placed, placeOf}
-use Rattle.readings.proofs.Shared.{outputNumber, tapNumber, inputNumber, tap-parts, lies-inside, lies-outside, rising, nested-sum}
+use Rattle.readings.proofs.Shared.{outputNumber, tapNumber, inputNumber, flat-plane, onAxes, tap-parts, lies-inside, lies-outside, rising, nested-sum}
 
--- "Tap ky lies at input row y·s - begin + ky·d": q is that row, or column, of the input
+-- "Tap ky lies at input row y·s - begin + ky·d": q is that row, or depth or column, of the input
 pub record LiesAt (s : Span) (p k q : ℕ) : Type 0 where
   pub position : q + s .begin ≡ p * s .stride + k * s .dilation
   pub inside : q < s .input
@@ -33,46 +32,48 @@ at-lies s p k q l e =
     let u = at-finds (s .input) (joins s p k) (forward s p k) q (forward-finds s p k) e in
     record { position = sym (eqb-true (p * s .stride + k * s .dilation) (q + s .begin) (u .1)); inside = u .0 }
 
--- the place of weight (g, o, i, ky, kx) in [G, O, I, KY, KX]
-abbrev pub weight : Shape → ℕ → ℕ → ℕ → ℕ → ℕ → ℕ
-weight s g o i ky kx = (((g * s .o + o) * s .i + i) * s .y .kernel + ky) * s .x .kernel + kx
+-- the place of weight (g, o, i, kz, ky, kx) in [G, O, I, KZ, KY, KX]
+abbrev pub weight : Shape → ℕ → ℕ → ℕ → ℕ → ℕ → ℕ → ℕ
+weight s g o i kz ky kx = ((((g * s .o + o) * s .i + i) * s .z .kernel + kz) * s .y .kernel + ky) * s .x .kernel + kx
 
-weight-flat : (c i ky kx I KY KX : ℕ) → c * (I * KY * KX) + ((i * KY + ky) * KX + kx) ≡ ((c * I + i) * KY + ky) * KX + kx
-weight-flat c i ky kx I KY KX = simp (add-mul, mul-assoc, add-assoc)
+weight-flat : (c i kz ky kx I KZ KY KX : ℕ) → c * (I * (KZ * KY) * KX) + (((i * KZ + kz) * KY + ky) * KX + kx) ≡ (((c * I + i) * KZ + kz) * KY + ky) * KX + kx
+weight-flat c i kz ky kx I KZ KY KX = simp (add-mul, mul-assoc, add-assoc)
 
--- ---- one tap: in channel g·I + i of image n, at its row and column
-abbrev pub tapPlace : Shape → ℕ → ℕ → ℕ → ℕ → ℕ → ℕ → ℕ → ℕ → Place
-tapPlace s n g o y x i ky kx =
+-- ---- one tap: in channel g·I + i of image n, at its depth, row and column
+abbrev pub tapPlace : Shape → ℕ → ℕ → ℕ → ℕ → ℕ → ℕ → ℕ → ℕ → ℕ → ℕ → Place
+tapPlace s n g o z y x i kz ky kx =
     placed
-    ((n * s .c + (g * s .i + i)) * (s .y .input * s .x .input))
-    (weight s g o i ky kx)
-    (both (s .x .input) (forward (s .y) y ky) (forward (s .x) x kx))
+    ((n * s .c + (g * s .i + i)) * (s .z .input * s .y .input * s .x .input))
+    (weight s g o i kz ky kx)
+    (onAxes s (forward (s .z) z kz) (forward (s .y) y ky) (forward (s .x) x kx))
 
-module _ (s : Shape) (n : ℕ) {g o y x : ℕ} (h : Grouped s) (hg : g < s .g) (ho : o < s .o) (hy : y < s .y .out) (hx : x < s .x .out) (i : ℕ) {ky kx : ℕ} (hky : ky < s .y .kernel) (hkx : kx < s .x .kernel) where
+module _ (s : Shape) (n : ℕ) {g o z y x : ℕ} (h : Grouped s) (hg : g < s .g) (ho : o < s .o) (hz : z < s .z .out) (hy : y < s .y .out) (hx : x < s .x .out) (i : ℕ) {kz ky kx : ℕ} (hkz : kz < s .z .kernel) (hky : ky < s .y .kernel) (hkx : kx < s .x .kernel) where
   -- the numbers decode to what they were made of
-  pub reading : placeOf s (outputNumber s n g o y x) (tapNumber s i ky kx) ≡ tapPlace s n g o y x i ky kx
+  pub reading : placeOf s (outputNumber s n g o z y x) (tapNumber s i kz ky kx) ≡ tapPlace s n g o z y x i kz ky kx
   unfolding placeOf kernelRows
   reading =
-      let p = tap-parts forward s n g o y x i ky kx h hg ho hy hx hky hkx in
-      rw (p .start, p .lies, p .channel, h .taps-is, weight-flat (g * s .o + o) i ky kx (s .i) (s .y .kernel) (s .x .kernel))
+      let p = tap-parts forward s n g o z y x i kz ky kx h hg ho hz hy hx hkz hky hkx in
+      rw (p .start, p .lies, p .channel, h .taps-is, weight-flat (g * s .o + o) i kz ky kx (s .i) (s .z .kernel) (s .y .kernel) (s .x .kernel))
 
-  -- a tap inside the input: row iy and column ix of image n, channel g·I + i
-  pub reading-inside : (iy ix : ℕ) → LiesAt (s .y) y ky iy → LiesAt (s .x) x kx ix
-      → placeOf s (outputNumber s n g o y x) (tapNumber s i ky kx) ≡ at (inputNumber s n g i iy ix) (weight s g o i ky kx)
+  -- a tap inside the input: depth iz, row iy and column ix of image n, channel g·I + i
+  pub reading-inside : (iz iy ix : ℕ) → LiesAt (s .z) z kz iz → LiesAt (s .y) y ky iy → LiesAt (s .x) x kx ix
+      → placeOf s (outputNumber s n g o z y x) (tapNumber s i kz ky kx) ≡ at (inputNumber s n g i iz iy ix) (weight s g o i kz ky kx)
   unfolding placed
-  reading-inside iy ix a b =
+  reading-inside iz iy ix a b c =
       reading
-      ∙ rw (lies-inside forward LiesAt lies-at at-lies s h y x ky kx iy ix a b) (ap (λ (p : ℕ). at p (weight s g o i ky kx)) (line-flat (n * s .c + (g * s .i + i)) (s .y .input) (s .x .input) iy ix))
+      ∙ rw (lies-inside forward LiesAt lies-at at-lies s h z y x kz ky kx iz iy ix a b c)
+      (ap (λ (p : ℕ). at p (weight s g o i kz ky kx)) (flat-plane (n * s .c + (g * s .i + i)) (s .z .input) (s .y .input) (s .x .input) iz iy ix))
 
-  -- a tap outside the input: it lies at no row and column of it
-  pub reading-outside : ((iy ix : ℕ) → LiesAt (s .y) y ky iy → LiesAt (s .x) x kx ix → ⊥)
-      → placeOf s (outputNumber s n g o y x) (tapNumber s i ky kx) ≡ outside (weight s g o i ky kx)
+  -- a tap outside the input: it lies at no depth, row and column of it
+  pub reading-outside : ((iz iy ix : ℕ) → LiesAt (s .z) z kz iz → LiesAt (s .y) y ky iy → LiesAt (s .x) x kx ix → ⊥)
+      → placeOf s (outputNumber s n g o z y x) (tapNumber s i kz ky kx) ≡ outside (weight s g o i kz ky kx)
   unfolding placed
-  reading-outside none = reading ∙ rw (lies-outside forward LiesAt lies-at at-lies s h y x ky kx none)
+  reading-outside none = reading ∙ rw (lies-outside forward LiesAt lies-at at-lies s h z y x kz ky kx none)
 
--- ---- "output (n, group g, o, y, x) starts at +0 and adds input·weight for each tap, by i, then ky, then kx, all rising."
-pub output-reading : (s : Shape) (n : ℕ) {g o y x : ℕ} → Grouped s → g < s .g → o < s .o → y < s .y .out → x < s .x .out → (input kernel : List Float)
-    → outputOf (placeOf s) (s .taps) input kernel (outputNumber s n g o y x)
-    ≡ rising (λ i. rising (λ ky. rising (λ kx sum. addTap sum (tapAt input kernel (tapPlace s n g o y x i ky kx))) (s .x .kernel)) (s .y .kernel)) (s .i) plusZero
-output-reading s n {g} {o} {y} {x} h hg ho hy hx input kernel =
-    nested-sum (placeOf s) s h input kernel (outputNumber s n g o y x) (tapPlace s n g o y x) (λ i ky kx hky hkx. reading s n h hg ho hy hx i hky hkx)
+-- ---- "output (n, group g, o, z, y, x) starts at +0 and adds input·weight for each tap, by i, then kz, then ky, then kx, all rising"
+pub output-reading : (s : Shape) (n : ℕ) {g o z y x : ℕ} → Grouped s → g < s .g → o < s .o → z < s .z .out → y < s .y .out → x < s .x .out → (input kernel : List Float)
+    → outputOf (placeOf s) (s .taps) input kernel (outputNumber s n g o z y x)
+    ≡ rising (λ i. rising (λ kz. rising (λ ky. rising (λ kx sum. addTap sum (tapAt input kernel (tapPlace s n g o z y x i kz ky kx))) (s .x .kernel)) (s .y .kernel)) (s .z .kernel)) (s .i) plusZero
+output-reading s n {g} {o} {z} {y} {x} h hg ho hz hy hx input kernel =
+    nested-sum (placeOf s) s h input kernel (outputNumber s n g o z y x) (tapPlace s n g o z y x)
+    (λ i kz ky kx hkz hky hkx. reading s n h hg ho hz hy hx i hkz hky hkx)

@@ -1,4 +1,4 @@
--- Max pooling in document 01's words: the places of a window by ky and kx; every output of an accepted call is the first largest element of its window, and
+-- Max pooling in document 01's words: the places of a window by kz, ky and kx; every output of an accepted call is the first largest element of its window, and
 -- its index names that element.
 use Prim.Native.Nat.{ℕ, zero, suc, _+_, _*_, _/_, _%_, _<_}
 use native.Mathlib.Nat.{mod-lt, mul-pos}
@@ -22,7 +22,7 @@ use Rattle.sizes.proofs.Joins.{forward-below, below-at}
 use Rattle.shape.specs.declared.Shape.{Shape}
 use Rattle.shape.specs.Counts.{shapeOf}
 use Rattle.shape.specs.Facts.{Sound, Pooled}
-use Rattle.shape.specs.Volumes.{inputRows, kernelRows, outRows, inputVolume, kernelVolume, outVolume, onRows, onPlane}
+use Rattle.shape.specs.Volumes.{inputRows, kernelRows, outRows, inputVolume, kernelVolume, outVolume, onPlane}
 use Rattle.shape.specs.Windows.{windowEmpty}
 use Rattle.shape.proofs.Volumes.{plane-below}
 use Rattle.tensor.specs.declared.Window.{Window}
@@ -37,28 +37,32 @@ use Rattle.tensor.proofs.Largest.{all-map, all-append, first-largest}
 use Rattle.call.specs.declared.Verdict.the-variants.{Run}
 use Rattle.call.proofs.Checked.{zero-run}
 use Rattle.call.proofs.Outcome.{run-leaves}
-use Rattle.call.proofs.Planes.{output-plane, inputs-are, line-flat}
+use Rattle.call.proofs.Planes.{output-plane, inputs-are}
 use Rattle.pooling.specs.Windows.{atTap, overTaps, windowPlaces, windowOf}
 use Rattle.pooling.specs.Call.{valueOf, indexOf, pooledValue, pooledIndex, callVerdict, maxPoolAnswer}
-use Rattle.pooling.proofs.Scan.{over-rows}
+use Rattle.pooling.proofs.Scan.{over-rows, over-depths}
 use Rattle.pooling.proofs.Accepted.{PoolFitting, pool-fitting}
 use Rattle.readings.specs.Pooling.{BestOfWindow}
-use Rattle.readings.proofs.Shared.{plane-number}
+use Rattle.readings.proofs.Shared.{flat-plane, plane-number}
 
--- ---- the window of output (n, c, y, x) of [N, C, OY, OX], "by ky then kx": the rows of the input at which the taps ky lie, and in each the columns at which
--- the taps kx lie, in image n and channel c
-pub reading-window : (s : Shape) (n : ℕ) {c y x : ℕ} → c < s .c → y < s .y .out → x < s .x .out
-    → windowPlaces s (flatPlace (s .c) (s .y .out) (s .x .out) n c y x)
-    ≡ overTaps (forward (s .y) y) (λ iy. overTaps (forward (s .x) x) (λ ix. flatPlace (s .c) (s .y .input) (s .x .input) n c iy ix ∷ []) (s .x .kernel)) (s .y .kernel)
-unfolding inputRows kernelRows outRows onRows
-reading-window s n {c} {y} {x} hc hy hx =
+-- ---- the window of output (n, c, z, y, x) of [N, C, OZ, OY, OX], "by kz, then ky, then kx": the depths of the input at which the taps kz lie, in each the rows
+-- at which the taps ky lie, and in each of these the columns at which the taps kx lie, in image n and channel c
+along : (tap : ℕ → Tap) (k : ℕ) (f g : ℕ → List ℕ) → ((q : ℕ) → f q ≡ g q) → overTaps tap f k ≡ overTaps tap g k
+along tap k f g e = ap (λ (h : ℕ → List ℕ). overTaps tap h k) (fun-ext e)
+
+pub reading-window : (s : Shape) (n : ℕ) {c z y x : ℕ} → c < s .c → z < s .z .out → y < s .y .out → x < s .x .out
+    → windowPlaces s (flatPlace (s .c) (s .z .out) (s .y .out) (s .x .out) n c z y x)
+    ≡ overTaps (forward (s .z) z) (λ iz. overTaps (forward (s .y) y) (λ iy. overTaps (forward (s .x) x) (λ ix.
+    flatPlace (s .c) (s .z .input) (s .y .input) (s .x .input) n c iz iy ix ∷ []) (s .x .kernel)) (s .y .kernel)) (s .z .kernel)
+unfolding inputRows kernelRows outRows
+reading-window s n {c} {z} {y} {x} hc hz hy hx =
     let p = n * s .c + c in
-    let a = plane-number (s .y .out) (s .x .out) p hy hx in
+    let a = plane-number (s .z .out) (s .y .out) (s .x .out) p hz hy hx in
     rw (a .plane, a .position)
-    (over-rows s y hx (λ q. (p * (s .y .input * s .x .input) + q) ∷ []) (s .y .kernel)
-    ∙ ap (λ (g : ℕ → List ℕ). overTaps (forward (s .y) y) g (s .y .kernel))
-    (fun-ext (λ iy. ap (λ (g : ℕ → List ℕ). overTaps (forward (s .x) x) g (s .x .kernel))
-    (fun-ext (λ ix. ap (λ (m : ℕ). m ∷ []) (line-flat p (s .y .input) (s .x .input) iy ix))))))
+    (over-rows s (z * s .y .out + y) hx (λ q. (p * (s .z .input * s .y .input * s .x .input) + q) ∷ []) (s .z .kernel * s .y .kernel)
+    ∙ over-depths s z hy _ (s .z .kernel)
+    ∙ along (forward (s .z) z) (s .z .kernel) _ _ (λ iz. along (forward (s .y) y) (s .y .kernel) _ _ (λ iy. along (forward (s .x) x) (s .x .kernel) _ _ (λ ix.
+    ap (λ (m : ℕ). m ∷ []) (flat-plane p (s .z .input) (s .y .input) (s .x .input) iz iy ix)))))
 
 -- ---- the places of a window
 module _ (tap : ℕ → Tap) (f : ℕ → List ℕ) where

@@ -1,5 +1,5 @@
--- Transposed convolution in document 01's words: the places of its taps, for output (n, g, o, y, x) and tap (i, ky, kx), each at its row-major number, and the
--- sum over them by three nested loops.
+-- Transposed convolution in document 01's words: the places of its taps, for output (n, g, o, z, y, x) and tap (i, kz, ky, kx), each at its row-major number, and
+-- the sum over them by four nested loops.
 use mathlib.Core.Path.{_≡_, ap, _∙_}
 use mathlib.Core.List.{List}
 use Prim.Native.Nat.{ℕ, _+_, _*_, _≤_, _<_}
@@ -8,18 +8,17 @@ use lib.Ieee.{Float}
 use Rattle.layer.proofs.Places.{place-div, place-mod}
 use Rattle.sizes.specs.declared.Span.{Span}
 use Rattle.sizes.specs.declared.Tap.the-variants.{At}
-use Rattle.sizes.specs.Joins.{joins, backward, both}
+use Rattle.sizes.specs.Joins.{joins, backward}
 use Rattle.sizes.proofs.Joins.{backward-finds, finds-at, at-finds}
 use Rattle.shape.specs.declared.Shape.{Shape}
 use Rattle.shape.specs.Facts.{Grouped}
 use Rattle.shape.specs.Volumes.{kernelRows}
 use Rattle.tensor.specs.Table.{plusZero}
 use Rattle.sums.specs.Taps.{Place, missing, at, tapAt, addTap, outputOf}
-use Rattle.call.proofs.Planes.{line-flat}
 use Rattle.transposed.specs.Transposed.{reached, placeOf}
-use Rattle.readings.proofs.Shared.{outputNumber, tapNumber, inputNumber, tap-parts, lies-inside, lies-outside, rising, nested-sum}
+use Rattle.readings.proofs.Shared.{outputNumber, tapNumber, inputNumber, flat-plane, onAxes, tap-parts, lies-inside, lies-outside, rising, nested-sum}
 
--- "those taps where y + begin - ky·d = iy·s with iy inside the input": p is y and q is iy, or likewise for x
+-- "those taps where y + begin - ky·d = iy·s with iy inside the input": p is y and q is iy, or likewise for z and x
 pub record Reaches (s : Span) (p k q : ℕ) : Type 0 where
   pub position : q * s .stride + k * s .dilation ≡ p + s .begin
   pub inside : q < s .input
@@ -33,43 +32,45 @@ at-reaches s p k q l e =
     let u = at-finds (s .input) (λ r. joins s r k p) (backward s p k) q (backward-finds s p k l) e in
     record { position = eqb-true (q * s .stride + k * s .dilation) (p + s .begin) (u .1); inside = u .0 }
 
--- the place of weight (g, i, o, ky, kx) in [G, I, O, KY, KX]
-abbrev pub weight : Shape → ℕ → ℕ → ℕ → ℕ → ℕ → ℕ
-weight s g o i ky kx = (((g * s .i + i) * s .o + o) * s .y .kernel + ky) * s .x .kernel + kx
+-- the place of weight (g, i, o, kz, ky, kx) in [G, I, O, KZ, KY, KX]
+abbrev pub weight : Shape → ℕ → ℕ → ℕ → ℕ → ℕ → ℕ → ℕ
+weight s g o i kz ky kx = ((((g * s .i + i) * s .o + o) * s .z .kernel + kz) * s .y .kernel + ky) * s .x .kernel + kx
 
--- ---- one tap: in channel g·I + i of image n, at the row and the column that it reaches
-abbrev pub tapPlace : Shape → ℕ → ℕ → ℕ → ℕ → ℕ → ℕ → ℕ → ℕ → Place
-tapPlace s n g o y x i ky kx =
+-- ---- one tap: in channel g·I + i of image n, at the depth, row and column that it reaches
+abbrev pub tapPlace : Shape → ℕ → ℕ → ℕ → ℕ → ℕ → ℕ → ℕ → ℕ → ℕ → ℕ → Place
+tapPlace s n g o z y x i kz ky kx =
     reached
-    ((n * s .c + (g * s .i + i)) * (s .y .input * s .x .input))
-    (weight s g o i ky kx)
-    (both (s .x .input) (backward (s .y) y ky) (backward (s .x) x kx))
+    ((n * s .c + (g * s .i + i)) * (s .z .input * s .y .input * s .x .input))
+    (weight s g o i kz ky kx)
+    (onAxes s (backward (s .z) z kz) (backward (s .y) y ky) (backward (s .x) x kx))
 
-module _ (s : Shape) (n : ℕ) {g o y x : ℕ} (h : Grouped s) (hg : g < s .g) (ho : o < s .o) (hy : y < s .y .out) (hx : x < s .x .out) (i : ℕ) {ky kx : ℕ} (hky : ky < s .y .kernel) (hkx : kx < s .x .kernel) where
+module _ (s : Shape) (n : ℕ) {g o z y x : ℕ} (h : Grouped s) (hg : g < s .g) (ho : o < s .o) (hz : z < s .z .out) (hy : y < s .y .out) (hx : x < s .x .out) (i : ℕ) {kz ky kx : ℕ} (hkz : kz < s .z .kernel) (hky : ky < s .y .kernel) (hkx : kx < s .x .kernel) where
   -- the numbers decode to what they were made of
-  pub reading : placeOf s (outputNumber s n g o y x) (tapNumber s i ky kx) ≡ tapPlace s n g o y x i ky kx
+  pub reading : placeOf s (outputNumber s n g o z y x) (tapNumber s i kz ky kx) ≡ tapPlace s n g o z y x i kz ky kx
   unfolding placeOf kernelRows
   reading =
-      let p = tap-parts backward s n g o y x i ky kx h hg ho hy hx hky hkx in
-      rw (p .start, p .lies, p .channel, p .tap-channel, p .tap-position, place-div g ho, place-mod g ho, line-flat ((g * s .i + i) * s .o + o) (s .y .kernel) (s .x .kernel) ky kx)
+      let p = tap-parts backward s n g o z y x i kz ky kx h hg ho hz hy hx hkz hky hkx in
+      rw (p .start, p .lies, p .channel, p .tap-channel, p .tap-position, place-div g ho, place-mod g ho, flat-plane ((g * s .i + i) * s .o + o) (s .z .kernel) (s .y .kernel) (s .x .kernel) kz ky kx)
 
-  -- a tap that reaches row iy and column ix of image n, channel g·I + i
-  pub reading-at : (iy ix : ℕ) → Reaches (s .y) y ky iy → Reaches (s .x) x kx ix
-      → placeOf s (outputNumber s n g o y x) (tapNumber s i ky kx) ≡ at (inputNumber s n g i iy ix) (weight s g o i ky kx)
+  -- a tap that reaches depth iz, row iy and column ix of image n, channel g·I + i
+  pub reading-at : (iz iy ix : ℕ) → Reaches (s .z) z kz iz → Reaches (s .y) y ky iy → Reaches (s .x) x kx ix
+      → placeOf s (outputNumber s n g o z y x) (tapNumber s i kz ky kx) ≡ at (inputNumber s n g i iz iy ix) (weight s g o i kz ky kx)
   unfolding reached
-  reading-at iy ix a b =
+  reading-at iz iy ix a b c =
       reading
-      ∙ rw (lies-inside backward Reaches reaches-at at-reaches s h y x ky kx iy ix a b) (ap (λ (p : ℕ). at p (weight s g o i ky kx)) (line-flat (n * s .c + (g * s .i + i)) (s .y .input) (s .x .input) iy ix))
+      ∙ rw (lies-inside backward Reaches reaches-at at-reaches s h z y x kz ky kx iz iy ix a b c)
+      (ap (λ (p : ℕ). at p (weight s g o i kz ky kx)) (flat-plane (n * s .c + (g * s .i + i)) (s .z .input) (s .y .input) (s .x .input) iz iy ix))
 
-  -- a tap that reaches no row and column of the input takes no part
-  pub reading-missing : ((iy ix : ℕ) → Reaches (s .y) y ky iy → Reaches (s .x) x kx ix → ⊥)
-      → placeOf s (outputNumber s n g o y x) (tapNumber s i ky kx) ≡ missing
+  -- a tap that reaches no depth, row and column of the input takes no part
+  pub reading-missing : ((iz iy ix : ℕ) → Reaches (s .z) z kz iz → Reaches (s .y) y ky iy → Reaches (s .x) x kx ix → ⊥)
+      → placeOf s (outputNumber s n g o z y x) (tapNumber s i kz ky kx) ≡ missing
   unfolding reached
-  reading-missing none = reading ∙ rw (lies-outside backward Reaches reaches-at at-reaches s h y x ky kx none)
+  reading-missing none = reading ∙ rw (lies-outside backward Reaches reaches-at at-reaches s h z y x kz ky kx none)
 
--- ---- "Transposed: output (n, g, o, y, x) starts at +0 and adds, by i, ky, kx rising, input(iy, ix)·weight for those taps where .."
-pub output-reading : (s : Shape) (n : ℕ) {g o y x : ℕ} → Grouped s → g < s .g → o < s .o → y < s .y .out → x < s .x .out → (input kernel : List Float)
-    → outputOf (placeOf s) (s .taps) input kernel (outputNumber s n g o y x)
-    ≡ rising (λ i. rising (λ ky. rising (λ kx sum. addTap sum (tapAt input kernel (tapPlace s n g o y x i ky kx))) (s .x .kernel)) (s .y .kernel)) (s .i) plusZero
-output-reading s n {g} {o} {y} {x} h hg ho hy hx input kernel =
-    nested-sum (placeOf s) s h input kernel (outputNumber s n g o y x) (tapPlace s n g o y x) (λ i ky kx hky hkx. reading s n h hg ho hy hx i hky hkx)
+-- ---- "Transposed: output (n, g, o, z, y, x) starts at +0 and adds, by i, kz, ky, kx rising, input(iz, iy, ix)·weight for those taps where .."
+pub output-reading : (s : Shape) (n : ℕ) {g o z y x : ℕ} → Grouped s → g < s .g → o < s .o → z < s .z .out → y < s .y .out → x < s .x .out → (input kernel : List Float)
+    → outputOf (placeOf s) (s .taps) input kernel (outputNumber s n g o z y x)
+    ≡ rising (λ i. rising (λ kz. rising (λ ky. rising (λ kx sum. addTap sum (tapAt input kernel (tapPlace s n g o z y x i kz ky kx))) (s .x .kernel)) (s .y .kernel)) (s .z .kernel)) (s .i) plusZero
+output-reading s n {g} {o} {z} {y} {x} h hg ho hz hy hx input kernel =
+    nested-sum (placeOf s) s h input kernel (outputNumber s n g o z y x) (tapPlace s n g o z y x)
+    (λ i kz ky kx hkz hky hkx. reading s n h hg ho hz hy hx i hkz hky hkx)

@@ -1,7 +1,8 @@
 // Runs what no layer sheet can say, and the plane picker. Cases are read from standard input; a line is printed for each.
-// A case of a record has 15 lines: its name, the 12 lines of a layer sheet, the field of the layer that is then changed, and how many bytes are lent to the
-// writer. All three operators are called with the layer, over an input (2), a kernel (3) and outputs of one element, and the layer is written as a sheet.
-// A case of a plane has five: its name, the tensor's sizes, its length, the image and the channel. The tensor's elements are their own places.
+// A case of a record has 15 lines: its name, the 12 lines of a layer sheet, the field of the layer that is then changed, as `z.input=2`, and how many bytes are
+// lent to the writer. All three operators are called with the layer, over an input (2), a kernel (3) and outputs of one element, and the layer is written as
+// a sheet.
+// A case of a plane has six: its name, the tensor's sizes, its length, the image, the channel and the depth. The tensor's elements are their own places.
 // The outputs and the buffer hold marks before the calls: `kept` says that they still do.
 use cases::after_line;
 use cases::after_sheet;
@@ -195,7 +196,7 @@ fn print_written(written: Written, buffer: &[u8; 512]) {
 
 // The buffer goes on behind the bytes that are lent.
 fn run_write(layer: Layer, room: usize)
-    requires { ⌜ room ≤ 400 ⌝ }
+    requires { ⌜ room ≤ 480 ⌝ }
 {
     let mut buffer = [BYTE_MARK; 512];
     let written = write_sheet(layer, &mut buffer[..room]);
@@ -204,9 +205,9 @@ fn run_write(layer: Layer, room: usize)
 
 // ---- reading the cases
 
-// The number of the line at a place, where it has the key; else the other number.
-fn number_or(s: &[u8], at: usize, key: &[u8], other: u32) -> u32 {
-    let number = read_number(value_of(s, at, key));
+// The number that a text spells; else the other number.
+fn number_or(t: &[u8], other: u32) -> u32 {
+    let number = read_number(t);
     match number {
         Number::Value(n) => n,
         Number::NoNumber => other,
@@ -217,33 +218,34 @@ fn number_or(s: &[u8], at: usize, key: &[u8], other: u32) -> u32 {
 fn length_at(s: &[u8], at: usize, key: &[u8], most: usize) -> usize
     ensures { λ r. ⌜ r ≤ most ⌝ }
 {
-    let length = number_or(s, at, key, 0) as usize;
+    let length = number_or(value_of(s, at, key), 0) as usize;
     if length <= most { length } else { most }
 }
 
-// ---- the changed field: each field is the line's value where the line has its key, and else as it was
+// ---- the changed field: each field is the change's value where the change has its key, and else as it was
 
-fn changed_y(y: Axis, s: &[u8], at: usize) -> Axis {
-    Axis {
-        input: number_or(s, at, b"y.input=", y.input),
-        kernel: number_or(s, at, b"y.kernel=", y.kernel),
-        stride: number_or(s, at, b"y.stride=", y.stride),
-        dilation: number_or(s, at, b"y.dilation=", y.dilation),
-        pad_begin: number_or(s, at, b"y.pad_begin=", y.pad_begin),
-        pad_end: number_or(s, at, b"y.pad_end=", y.pad_end),
-        output_padding: number_or(s, at, b"y.output_padding=", y.output_padding),
+// What comes after the key; empty where the text has another key.
+fn after_key<'a>(t: &'a [u8], key: &[u8]) -> &'a [u8] {
+    if starts(t, key) {
+        return part_of(t, key.len(), t.len());
     }
+    part_of(t, 0, 0)
 }
 
-fn changed_x(x: Axis, s: &[u8], at: usize) -> Axis {
+fn changed_field(field: u32, change: &[u8], key: &[u8]) -> u32 {
+    number_or(after_key(change, key), field)
+}
+
+// The fields of one axis. The change comes without the axis's letter, and is empty if it is not of this axis.
+fn changed_fields(a: Axis, change: &[u8]) -> Axis {
     Axis {
-        input: x.input,
-        kernel: x.kernel,
-        stride: x.stride,
-        dilation: x.dilation,
-        pad_begin: x.pad_begin,
-        pad_end: x.pad_end,
-        output_padding: number_or(s, at, b"x.output_padding=", x.output_padding),
+        input: changed_field(a.input, change, b"input="),
+        kernel: changed_field(a.kernel, change, b"kernel="),
+        stride: changed_field(a.stride, change, b"stride="),
+        dilation: changed_field(a.dilation, change, b"dilation="),
+        pad_begin: changed_field(a.pad_begin, change, b"pad_begin="),
+        pad_end: changed_field(a.pad_end, change, b"pad_end="),
+        output_padding: changed_field(a.output_padding, change, b"output_padding="),
     }
 }
 
@@ -276,22 +278,24 @@ fn changed_axis(axis: i32, value: &[u8]) -> i32 {
     small(value) as i32
 }
 
-fn changed(l: Layer, s: &[u8], at: usize) -> Layer {
+fn changed(l: Layer, change: &[u8]) -> Layer {
     let op = l.op;
     let auto_pad = l.auto_pad;
     let rounding = l.rounding;
-    let y = changed_y(l.y, s, at);
-    let x = changed_x(l.x, s, at);
-    let rounding_after = changed_rounding(rounding, value_of(s, at, b"rounding="));
-    let axis = changed_axis(l.axis, value_of(s, at, b"axis="));
+    let z = changed_fields(l.z, after_key(change, b"z."));
+    let y = changed_fields(l.y, after_key(change, b"y."));
+    let x = changed_fields(l.x, after_key(change, b"x."));
+    let rounding_after = changed_rounding(rounding, after_key(change, b"rounding="));
+    let axis = changed_axis(l.axis, after_key(change, b"axis="));
     Layer {
         op: op,
-        axes: number_or(s, at, b"axes=", l.axes),
+        axes: changed_field(l.axes, change, b"axes="),
         n: l.n,
         c: l.c,
-        g: number_or(s, at, b"g=", l.g),
-        o: number_or(s, at, b"o=", l.o),
-        i: number_or(s, at, b"i=", l.i),
+        g: changed_field(l.g, change, b"g="),
+        o: changed_field(l.o, change, b"o="),
+        i: changed_field(l.i, change, b"i="),
+        z: z,
         y: y,
         x: x,
         auto_pad: auto_pad,
@@ -303,7 +307,7 @@ fn changed(l: Layer, s: &[u8], at: usize) -> Layer {
 // ---- the cases
 
 fn run_layer(layer: Layer, room: usize)
-    requires { ⌜ room ≤ 400 ⌝ }
+    requires { ⌜ room ≤ 480 ⌝ }
 {
     run_convolution(layer);
     run_transposed(layer);
@@ -320,8 +324,8 @@ fn run_record(s: &[u8], at: usize) -> usize {
     match read {
         Read::Refused(_, _) => print(b" no sheet"),
         Read::Sheet(layer) => run_layer(
-            changed(layer, s, change),
-            length_at(s, room, b"room=", 400),
+            changed(layer, value_of(s, change, b"")),
+            length_at(s, room, b"room=", 480),
         ),
     }
     print(b"\n");
@@ -351,7 +355,7 @@ fn print_plane(plane: &[f32]) {
     }
 }
 
-fn pick(sizes: Items, length: usize, image: u32, channel: u32)
+fn pick(sizes: Items, length: usize, image: u32, channel: u32, depth: u32)
     requires { ⌜ length ≤ 64 ⌝ }
 {
     let mut tensor = [0.0f32; 64];
@@ -362,8 +366,10 @@ fn pick(sizes: Items, length: usize, image: u32, channel: u32)
         sizes.b,
         sizes.c,
         sizes.d,
+        sizes.e,
         image,
         channel,
+        depth,
     ));
 }
 
@@ -373,18 +379,20 @@ fn run_plane(s: &[u8], at: usize) -> usize {
     let length = after_line(s, sizes);
     let image = after_line(s, length);
     let channel = after_line(s, image);
-    let list = read_numbers(value_of(s, sizes, b"sizes="), 4);
+    let depth = after_line(s, channel);
+    let list = read_numbers(value_of(s, sizes, b"sizes="), 5);
     match list {
         Numbers::NoNumbers => print(b" no sizes"),
-        Numbers::These(f) => pick(
-            f,
+        Numbers::These(items) => pick(
+            items,
             length_at(s, length, b"length=", 64),
-            number_or(s, image, b"image=", 0),
-            number_or(s, channel, b"channel=", 0),
+            number_or(value_of(s, image, b"image="), 0),
+            number_or(value_of(s, channel, b"channel="), 0),
+            number_or(value_of(s, depth, b"depth="), 0),
         ),
     }
     print(b"\n");
-    after_line(s, channel)
+    after_line(s, depth)
 }
 
 // The key of the first line tells the kind of the case: the name under the other key is empty.

@@ -1,6 +1,6 @@
 -- How long a report is: a line is its key, its numbers and the line end, and a number has at most ten digits.
 use Prim.Native.Nat.{ℕ, _≤_}
-use mathlib.Core.Path.{_≡_, refl}
+use mathlib.Core.Path.{_≡_, refl, ap}
 use mathlib.Core.Bool.{false≢true}
 use mathlib.Core.List.{List, _++_}
 use native.Mathlib.Omega.{arith}
@@ -8,7 +8,7 @@ use lib.ListN.{length, length-append}
 use Rattle.text.specs.Texts.{text}
 use Rattle.text.specs.Numbers.{decimal}
 use Rattle.text.specs.Lists.{showNumbers}
-use Rattle.text.proofs.NumberLaws.{decimal-10}
+use Rattle.text.proofs.NumberLaws.{decimal-10, decimal-small}
 use Rattle.text.proofs.ListLaws.{numbers-length}
 use Rattle.text.proofs.LineLaws.{line-length}
 use Rattle.print.specs.Put.{Put}
@@ -40,20 +40,21 @@ refusal-length number line h k =
 pub number-length : (number : ℕ) → U32 number → length (answerLine number) ≤ 80
 number-length number h = omega (arith, line-length (text "answer=") (decimal number), decimal-10 number h)
 
--- "answer=0" and "output=" with three or four numbers
-pub output-length : (axes : ℕ) (o : Output) → axes ≤ 2 → U32 (o .n) → U32 (o .c) → U32 (o .y) → U32 (o .x)
+-- "answer=0" and "output=" with three to five numbers
+pub output-length : (axes : ℕ) (o : Output) → axes ≤ 3 → U32 (o .n) → U32 (o .c) → U32 (o .z) → U32 (o .y) → U32 (o .x)
     → length (answerLine 0 ++ outputLine axes o) ≤ 80
-output-length axes o h hn hc hy hx =
-    let f = inputList axes (o .n) (o .c) (o .y) (o .x) in
+output-length axes o h hn hc hz hy hx =
+    let f = inputList axes (o .n) (o .c) (o .z) (o .y) (o .x) in
+    let digit : length (decimal 0) ≡ 1 = ap length (decimal-small 0 (omega arith)) in
     rw (length-append (answerLine 0) (outputLine axes o))
     (omega
-    (arith, h, line-length (text "answer=") (decimal 0), line-length (text "output=") (showNumbers (inputNumbers axes) f), decimal-10 0 (omega arith), numbers-length (inputNumbers axes) f (input-range axes (o .n) (o .c) (o .y) (o .x) hn hc hy hx)))
+    (arith, h, line-length (text "answer=") (decimal 0), digit, line-length (text "output=") (showNumbers (inputNumbers axes) f), numbers-length (inputNumbers axes) f (input-range axes (o .n) (o .c) (o .z) (o .y) (o .x) hn hc hz hy hx)))
 
--- a layer with an output has at most two axes
-pub output-axes : (l : Layer) (o : Output) → outputOf l ≡ Sizes o → l .axes ≤ 2
+-- a layer with an output has at most three axes
+pub output-axes : (l : Layer) (o : Output) → outputOf l ≡ Sizes o → l .axes ≤ 3
 unfolding outputOf
 output-axes l o e = go (judged (l .op) l) (λ s q. axes-most (l .op) l s q) e
   where
-    go : (j : Judged) → ((s : Shape) → j ≡ Accepted s → l .axes ≤ 2) → outputIn j ≡ Sizes o → l .axes ≤ 2
+    go : (j : Judged) → ((s : Shape) → j ≡ Accepted s → l .axes ≤ 3) → outputIn j ≡ Sizes o → l .axes ≤ 3
     go (Accepted s) h q = h s refl
     go (Refused n) h q = absurd (false≢true cc)

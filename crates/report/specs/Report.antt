@@ -1,5 +1,6 @@
 -- What document 01's program prints: "Program: judges the first 512 bytes of standard input as a sheet, makes checks 1 to 7 and prints `answer=0` and
--- `output=1,2,2,2` (two lines, for the sheet above); else `answer=` with the number, and for 20 to 23 a second line `line=`."
+-- `output=1,2,2,2` (two lines, for the sheet above), with three axes `output=N,C,Z,Y,X`; else `answer=` with the number, and for 20 to 23 a second line
+-- `line=`"
 use Prim.Native.Nat.{ℕ, _+_}
 use mathlib.Core.List.{List, _++_}
 use lib.ListN.{take}
@@ -22,9 +23,9 @@ answerLine number = showLine (text "answer=") (decimal number)
 abbrev pub lineLine : ℕ → List ℕ
 lineLine line = showLine (text "line=") (decimal line)
 
--- the output's sizes, N, channels, Y, X; with one axis N, channels, X
+-- the output's sizes, N, channels, Z, Y, X; with two axes N, channels, Y, X, with one N, channels, X
 abbrev pub outputLine : ℕ → Output → List ℕ
-outputLine axes o = showLine (text "output=") (showNumbers (inputNumbers axes) (inputList axes (o .n) (o .c) (o .y) (o .x)))
+outputLine axes o = showLine (text "output=") (showNumbers (inputNumbers axes) (inputList axes (o .n) (o .c) (o .z) (o .y) (o .x)))
 
 unfoldable pub sizesReport : ℕ → OutputSizes → List ℕ
 sizesReport axes (Sizes o) = answerLine 0 ++ outputLine axes o

@@ -1,5 +1,5 @@
 // What a sheet comes to: the sizes of its layer's output, or the number that refuses it, as values and as the text that the program prints.
-// That text is at most 80 bytes long: two keys and line ends, and at most five numbers of at most ten digits.
+// That text is at most 80 bytes long: two keys and line ends, and two numbers of at most ten digits or, after the answer 0, five with commas between them.
 use fields::input_list;
 use layer::Layer;
 use lines::Read;
@@ -19,10 +19,11 @@ ghost use Rattle.print.specs.Put.{Put};
 ghost use Rattle.report.specs.Output.{outputOf};
 ghost use Rattle.report.specs.Report.{answerLine, lineLine, outputLine, sizesReport, reportOf};
 
-// The sizes of an output: images, channels, rows and columns.
+// The sizes of an output: images, channels, depths, rows and columns.
 pub struct Output {
     pub n: u32,
     pub c: u32,
+    pub z: u32,
     pub y: u32,
     pub x: u32,
 }
@@ -44,6 +45,7 @@ pub fn output_sizes(layer: Layer) -> OutputSizes
         Judged::Accepted(s) => OutputSizes::Sizes(Output {
             n: s.n as u32,
             c: s.channels as u32,
+            z: s.z.out,
             y: s.y.out,
             x: s.x.out,
         }),
@@ -61,11 +63,11 @@ fn put_number_line(buf: &mut [u8], at: usize, key: &[u8], n: u32) -> usize
 
 // The lines of an accepted layer.
 fn put_output(buf: &mut [u8], axes: u32, o: Output) -> usize
-    requires { ⌜ axes ≤ 2 ⌝ }
+    requires { ⌜ axes ≤ 3 ⌝ }
     ensures { λ r. ⌜ Put (now (buf .entry)) 0 (answerLine 0 ++ outputLine axes o) r (now (buf .exit)) ⌝ }
     ensures { λ r. ⌜ r ≤ 80 ⌝ }
 {
-    let sizes = input_list(axes, o.n, o.c, o.y, o.x);
+    let sizes = input_list(axes, o.n, o.c, o.z, o.y, o.x);
     let next = put_number_line(buf, 0, b"answer=", 0);
     let list = Field::NumberList(axes as usize + 2);
     put_line(buf, next, b"output=", list, sizes)

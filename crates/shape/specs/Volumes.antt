@@ -1,5 +1,5 @@
--- The axes of a plane as one. All but the last are folded into rows, so that the operators know rows and columns alone; a third axis is said here and
--- nowhere else.
+-- The axes of a plane as one. A plane is all that one image has in one channel, with three axes all its depths (the plane picker hands back one of them). All
+-- axes but the last are folded into rows, so that the operators know rows and columns alone; how many axes there are is said here and nowhere else.
 use Prim.Native.Nat.{ℕ, _+_, _*_, _/_, _%_}
 use Rattle.sizes.specs.declared.Span.{Span}
 use Rattle.sizes.specs.declared.Tap.{Tap}
@@ -8,17 +8,18 @@ use Rattle.shape.specs.declared.Shape.{Shape}
 
 -- ---- rows: what lies along the last axis, numbered "Row-major, last axis fastest." over the others
 unfoldable pub inputRows : Shape → ℕ
-inputRows s = s .y .input
+inputRows s = s .z .input * s .y .input
 
 unfoldable pub kernelRows : Shape → ℕ
-kernelRows s = s .y .kernel
+kernelRows s = s .z .kernel * s .y .kernel
 
 unfoldable pub outRows : Shape → ℕ
-outRows s = s .y .out
+outRows s = s .z .out * s .y .out
 
--- the row of the input at which kernel row k of output row p lies: `f` is `forward` (convolution, pooling) or `backward` (transposed)
+-- the row of the input at which kernel row k of output row p lies: `f` is `forward` (convolution, pooling) or `backward` (transposed); "likewise for depths",
+-- "and likewise for z"
 unfoldable pub onRows : (Span → ℕ → ℕ → Tap) → Shape → ℕ → ℕ → Tap
-onRows f s p k = f (s .y) p k
+onRows f s p k = both (s .y .input) (f (s .z) (p / s .y .out) (k / s .y .kernel)) (f (s .y) (p % s .y .out) (k % s .y .kernel))
 
 -- ---- positions of a plane: "Row-major, last axis fastest."
 abbrev pub inputVolume : Shape → ℕ
@@ -30,7 +31,7 @@ kernelVolume s = kernelRows s * s .x .kernel
 abbrev pub outVolume : Shape → ℕ
 outVolume s = outRows s * s .x .out
 
--- the position of the input plane at which kernel position k of output position p lies: "likewise for columns", "and likewise for x"
+-- the position of the input plane at which kernel position k of output position p lies: "likewise for depths and columns", "and likewise for z and x"
 unfoldable pub onPlane : (Span → ℕ → ℕ → Tap) → Shape → ℕ → ℕ → Tap
 onPlane f s p k = both (s .x .input) (onRows f s (p / s .x .out) (k / s .x .kernel)) (f (s .x) (p % s .x .out) (k % s .x .kernel))
 

@@ -1,5 +1,7 @@
 // Checks 1 to 7 of a layer, and what an accepted layer tells an operator.
 use counts::modulus_of;
+use counts::quotient;
+use counts::remainder;
 use counts::times;
 use counts::volume;
 use layer::AutoPad;
@@ -7,6 +9,7 @@ use layer::Axis;
 use layer::Layer;
 use layer::Op;
 use layer::Rounding;
+use layer::axes_in;
 use layer::axis_ok;
 use layer::channels_ok;
 use layer::elements_ok;
@@ -17,6 +20,8 @@ use layer::is_explicit;
 use layer::is_pool;
 use layer::same_op;
 use layer::taps_ok;
+use layer::uses_y;
+use layer::uses_z;
 use sizes::Direction;
 use sizes::Sizing;
 use sizes::Span;
@@ -27,18 +32,17 @@ use sizes::mode_ok;
 use sizes::size_axis;
 use sizes::some_missed;
 use sizes::tap_on;
-ghost use Prim.Native.Nat.{_*_, _≤_};
+ghost use Prim.Native.Nat.{_*_, _≤_, _^_};
 ghost use mathlib.Core.Path.{_≡_};
 ghost use mathlib.Core.Bool.{not, _&&_};
 ghost use Rattle.layer.specs.Kinds.{isPool};
 ghost use Rattle.sizes.specs.Bounds.{SpanLimits};
-ghost use Rattle.sizes.specs.Joins.{tapOn};
+ghost use Rattle.sizes.specs.Joins.{tapOn, both, Below};
 ghost use Rattle.counts.specs.Counts.{capped};
-ghost use Rattle.counts.specs.Index.{modulus};
-ghost use Rattle.shape.specs.Counts.{inputCount, kernelCount, tapCount, outputChannels, shapeWith};
+ghost use Rattle.shape.specs.Counts.{inputCount, kernelCount, tapCount, outputChannels, modulusOf, shapeWith};
 ghost use Rattle.shape.specs.Volumes.{inputRows, kernelRows, outRows, onRows};
 ghost use Rattle.shape.specs.Windows.{someEmpty};
-ghost use Rattle.shape.specs.Checks.{groupsWithin, dimensionsOk, padsAtDefault, axisAtDefault, axesOk, poolingOk, notPoolingOk, unusedOk, attributesOk, groupsOk, countsOk};
+ghost use Rattle.shape.specs.Checks.{groupsWithin, axisWithin, dimensionsOk, padsAtDefault, axisAtDefault, axisFieldsOk, axesOk, poolingOk, notPoolingOk, unusedOk, attributesOk, groupsOk, countsOk};
 ghost use Rattle.shape.specs.Judge.{judged};
 ghost use Rattle.shape.specs.Facts.{Passed, Fitted};
 
@@ -51,6 +55,7 @@ pub struct Shape {
     pub o: usize,
     pub i: usize,
     pub channels: usize,
+    pub z: Span,
     pub y: Span,
     pub x: Span,
     pub taps: usize,
@@ -74,15 +79,21 @@ fn groups_within(op: Op, g: u32, o: u32, i: u32) -> bool
     is_pool(op) | (channels_ok(g) & channels_ok(o) & channels_ok(i))
 }
 
+fn axis_within(used: bool, a: Axis) -> bool
+    ensures { λ r. ⌜ r ≡ axisWithin used a ⌝ }
+{
+    !used | axis_dimensions_ok(a)
+}
+
 fn dimensions_ok(op: Op, l: Layer) -> bool
     ensures { λ r. ⌜ r ≡ dimensionsOk op l ⌝ }
 {
-    (1 <= l.axes)
-        & (l.axes <= 2)
+    axes_in(l.axes)
         & images_ok(l.n)
         & channels_ok(l.c)
+        & axis_within(uses_z(l.axes), l.z)
+        & axis_within(uses_y(l.axes), l.y)
         & axis_dimensions_ok(l.x)
-        & ((l.axes == 1) | axis_dimensions_ok(l.y))
         & groups_within(op, l.g, l.o, l.i)
 }
 
@@ -106,12 +117,18 @@ fn axis_at_default(m: AutoPad, a: Axis) -> bool
         & (a.output_padding == Axis::OUTPUT_PADDING)
 }
 
-fn axes_ok(op: Op, m: AutoPad, axes: u32, y: Axis, x: Axis) -> bool
-    ensures { λ r. ⌜ r ≡ axesOk op m axes y x ⌝ }
+fn axis_fields_ok(op: Op, m: AutoPad, used: bool, a: Axis) -> bool
+    ensures { λ r. ⌜ r ≡ axisFieldsOk op m used a ⌝ }
 {
-    axis_attributes_ok(op, m, x)
-        & axis_attributes_ok(op, m, y)
-        & ((axes == 2) | axis_at_default(m, y))
+    axis_attributes_ok(op, m, a) & (used | axis_at_default(m, a))
+}
+
+fn axes_ok(op: Op, m: AutoPad, axes: u32, z: Axis, y: Axis, x: Axis) -> bool
+    ensures { λ r. ⌜ r ≡ axesOk op m axes z y x ⌝ }
+{
+    axis_fields_ok(op, m, uses_z(axes), z)
+        & axis_fields_ok(op, m, uses_y(axes), y)
+        & axis_attributes_ok(op, m, x)
 }
 
 fn pooling_ok(axes: u32, axis: i32, g: u32, o: u32, i: u32) -> bool
@@ -143,28 +160,29 @@ fn attributes_ok(op: Op, l: Layer) -> bool
 {
     let own = l.op;
     let m = l.auto_pad;
-    same_op(op, own) & mode_ok(op, m) & axes_ok(op, m, l.axes, l.y, l.x) & unused_ok(op, l)
+    same_op(op, own) & mode_ok(op, m) & axes_ok(op, m, l.axes, l.z, l.y, l.x) & unused_ok(op, l)
 }
 
 // ---- numbers 3 and 4
 
-fn input_count(n: u32, c: u32, y: u32, x: u32) -> usize
-    ensures { λ r. ⌜ r ≡ capped (n * c * y * x) ⌝ }
+fn input_count(n: u32, c: u32, z: u32, y: u32, x: u32) -> usize
+    ensures { λ r. ⌜ r ≡ capped (n * c * z * y * x) ⌝ }
 {
-    volume(n as usize, c as usize, y as usize, x as usize)
+    let channels = times(n as usize, c as usize);
+    volume(channels, z as usize, y as usize, x as usize)
 }
 
-fn tap_count(i: u32, y: u32, x: u32) -> usize
-    ensures { λ r. ⌜ r ≡ capped (i * y * x) ⌝ }
+fn tap_count(i: u32, z: u32, y: u32, x: u32) -> usize
+    ensures { λ r. ⌜ r ≡ capped (i * z * y * x) ⌝ }
 {
-    times(times(i as usize, y as usize), x as usize)
+    volume(i as usize, z as usize, y as usize, x as usize)
 }
 
-fn kernel_count(g: u32, o: u32, i: u32, y: u32, x: u32) -> usize
-    ensures { λ r. ⌜ r ≡ capped (g * o * i * y * x) ⌝ }
+fn kernel_count(g: u32, o: u32, i: u32, z: u32, y: u32, x: u32) -> usize
+    ensures { λ r. ⌜ r ≡ capped (g * o * i * z * y * x) ⌝ }
 {
-    let channels = times(g as usize, o as usize);
-    volume(channels, i as usize, y as usize, x as usize)
+    let channels = times(times(g as usize, o as usize), i as usize);
+    volume(channels, z as usize, y as usize, x as usize)
 }
 
 // The product of two sizes of any value.
@@ -183,11 +201,12 @@ fn groups_ok(op: Op, c: u32, g: u32, i: u32) -> bool
 fn counts_ok(op: Op, l: Layer) -> bool
     ensures { λ r. ⌜ r ≡ countsOk op l ⌝ }
 {
+    let z = l.z;
     let y = l.y;
     let x = l.x;
-    let taps = tap_count(l.i, y.kernel, x.kernel);
-    let input = input_count(l.n, l.c, y.input, x.input);
-    let kernel = kernel_count(l.g, l.o, l.i, y.kernel, x.kernel);
+    let taps = tap_count(l.i, z.kernel, y.kernel, x.kernel);
+    let input = input_count(l.n, l.c, z.input, y.input, x.input);
+    let kernel = kernel_count(l.g, l.o, l.i, z.kernel, y.kernel, x.kernel);
     (is_pool(op) | taps_ok(taps)) & elements_ok(input) & elements_ok(kernel)
 }
 
@@ -205,30 +224,32 @@ fn output_channels(op: Op, c: u32, g: u32, o: u32) -> usize
 
 // Number 7, one axis at a time: a window is empty exactly if it is on some axis.
 fn windows_ok(op: Op, s: Shape) -> bool
-    requires { ⌜ SpanLimits (s .y) × SpanLimits (s .x) ⌝ }
+    requires { ⌜ SpanLimits (s .z) × SpanLimits (s .y) × SpanLimits (s .x) ⌝ }
     ensures { λ r. ⌜ r ≡ not (isPool op && someEmpty s) ⌝ }
 {
     if is_pool(op) {
+        let missed_z = some_missed(s.z);
         let missed_y = some_missed(s.y);
         let missed_x = some_missed(s.x);
-        !(missed_y | missed_x)
+        !(missed_z | missed_y | missed_x)
     } else {
         true
     }
 }
 
-fn shape_of(l: Layer, y: Span, x: Span, channels: usize, outputs: usize) -> Shape
+fn shape_of(l: Layer, z: Span, y: Span, x: Span, channels: usize, outputs: usize) -> Shape
     requires { ⌜ (tapCount l ≤ 16777216) × (inputCount l ≤ 16777216) × (kernelCount l ≤ 16777216) ⌝ }
-    requires { ⌜ modulus (l .axes) (l .axis) (l .n) (l .c) (l .y .input) (l .x .input) ≤ 16777216 ⌝ }
-    ensures { λ r. ⌜ r ≡ shapeWith l y x channels outputs ⌝ }
+    requires { ⌜ modulusOf l ≤ 16777216 ⌝ }
+    ensures { λ r. ⌜ r ≡ shapeWith l z y x channels outputs ⌝ }
 {
+    let az = l.z;
     let ay = l.y;
     let ax = l.x;
     let axis = l.axis;
-    let taps = tap_count(l.i, ay.kernel, ax.kernel);
-    let inputs = input_count(l.n, l.c, ay.input, ax.input);
-    let weights = kernel_count(l.g, l.o, l.i, ay.kernel, ax.kernel);
-    let modulus = modulus_of(l.axes, axis, l.n, l.c, ay.input, ax.input);
+    let taps = tap_count(l.i, az.kernel, ay.kernel, ax.kernel);
+    let inputs = input_count(l.n, l.c, az.input, ay.input, ax.input);
+    let weights = kernel_count(l.g, l.o, l.i, az.kernel, ay.kernel, ax.kernel);
+    let modulus = modulus_of(l.axes, axis, l.n, l.c, az.input, ay.input, ax.input);
     Shape {
         n: l.n as usize,
         c: l.c as usize,
@@ -236,6 +257,7 @@ fn shape_of(l: Layer, y: Span, x: Span, channels: usize, outputs: usize) -> Shap
         o: l.o as usize,
         i: l.i as usize,
         channels,
+        z,
         y,
         x,
         taps,
@@ -253,6 +275,10 @@ fn judge_sizes(op: Op, l: Layer) -> Judged
 {
     let m = l.auto_pad;
     let rounding = l.rounding;
+    let sized_z = size_axis(op, m, rounding, l.z);
+    let Sizing::Sized(z) = sized_z else {
+        return Judged::Refused(5);
+    };
     let sized_y = size_axis(op, m, rounding, l.y);
     let Sizing::Sized(y) = sized_y else {
         return Judged::Refused(5);
@@ -261,20 +287,21 @@ fn judge_sizes(op: Op, l: Layer) -> Judged
     let Sizing::Sized(x) = sized_x else {
         return Judged::Refused(5);
     };
-    judge_spans(op, l, y, x)
+    judge_spans(op, l, z, y, x)
 }
 
 // Checks 6 and 7.
-fn judge_spans(op: Op, l: Layer, y: Span, x: Span) -> Judged
-    requires { ⌜ Fitted op l y x ⌝ }
+fn judge_spans(op: Op, l: Layer, z: Span, y: Span, x: Span) -> Judged
+    requires { ⌜ Fitted op l z y x ⌝ }
     ensures { λ r. ⌜ r ≡ judged op l ⌝ }
 {
     let channels = output_channels(op, l.c, l.g, l.o);
-    let outputs = volume(l.n as usize, channels, y.out as usize, x.out as usize);
+    let planes = times(l.n as usize, channels);
+    let outputs = volume(planes, z.out as usize, y.out as usize, x.out as usize);
     if !elements_ok(outputs) {
         return Judged::Refused(6);
     }
-    let s = shape_of(l, y, x, channels, outputs);
+    let s = shape_of(l, z, y, x, channels, outputs);
     if !windows_ok(op, s) {
         return Judged::Refused(7);
     }
@@ -305,24 +332,66 @@ pub fn judge(op: Op, layer: Layer) -> Judged
 pub fn input_rows(s: Shape) -> usize
     ensures { λ r. ⌜ r ≡ inputRows s ⌝ }
 {
-    s.y.input as usize
+    product(s.z.input, s.y.input)
 }
 
 pub fn kernel_rows(s: Shape) -> usize
     ensures { λ r. ⌜ r ≡ kernelRows s ⌝ }
 {
-    s.y.kernel as usize
+    product(s.z.kernel, s.y.kernel)
 }
 
 pub fn out_rows(s: Shape) -> usize
     ensures { λ r. ⌜ r ≡ outRows s ⌝ }
 {
-    s.y.out as usize
+    product(s.z.out, s.y.out)
 }
 
-// The row of the input at which kernel row k of output row p lies, in either direction.
+// Two axes as one: where a tap lies that lies at `outer` on one axis and at `inner` on the next, of so many positions.
+fn both(size: u32, outer: Tap, inner: Tap) -> Tap
+    requires { ⌜ Below (2 ^ 32) outer × Below (2 ^ 32) inner ⌝ }
+    ensures { λ r. ⌜ r ≡ both size outer inner ⌝ }
+{
+    let Tap::At(a) = outer else {
+        return Tap::Outside;
+    };
+    let Tap::At(b) = inner else {
+        return Tap::Outside;
+    };
+    Tap::At(a * size as usize + b)
+}
+
+// A row's number taken apart into depth and row.
+fn folded_tap(d: Direction, s: Shape, p: u32, k: u32) -> Tap
+    ensures { λ r. ⌜ r ≡ onRows (tapOn d) s p k ⌝ }
+{
+    let out = s.y.out as usize;
+    let kernel = s.y.kernel as usize;
+    let row = p as usize;
+    let tap = k as usize;
+    let outer = tap_on(
+        d,
+        s.z,
+        quotient(row, out) as u32,
+        quotient(tap, kernel) as u32,
+    );
+    let inner = tap_on(
+        d,
+        s.y,
+        remainder(row, out) as u32,
+        remainder(tap, kernel) as u32,
+    );
+    both(s.y.input, outer, inner)
+}
+
+// The row of the input at which kernel row k of output row p lies, in either direction. A row of the first depth, which is all that one or two axes have, is
+// found without a division.
 pub fn row_tap(d: Direction, s: Shape, p: u32, k: u32) -> Tap
     ensures { λ r. ⌜ r ≡ onRows (tapOn d) s p k ⌝ }
 {
-    tap_on(d, s.y, p, k)
+    let first = (p < s.y.out) & (k < s.y.kernel) & (s.z.begin == 0) & (0 < s.z.input);
+    if first {
+        return tap_on(d, s.y, p, k);
+    }
+    folded_tap(d, s, p, k)
 }

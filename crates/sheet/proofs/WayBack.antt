@@ -1,9 +1,8 @@
 -- The way there and back: reading what was written gives the layer, and writing what was read gives the bytes. Both go by the values of the lines.
-use Prim.Native.Nat.{ℕ, suc, _-_, _+_, _≤_}
+use Prim.Native.Nat.{ℕ, suc, _+_, _≤_}
 use mathlib.Core.Path.{_≡_, refl, sym, ap, _∙_, subst}
-use mathlib.Core.Logic.{_⊎_, inl, inr, ⊎-elim}
 use mathlib.Core.List.{List, [], _∷_, _++_}
-use mathlib.Core.Bool.{Bool, true, false, cond, not, _&&_, _||_, false≢true}
+use mathlib.Core.Bool.{Bool, true, false, not, _&&_, _||_, false≢true}
 use mathlib.Core.Option.{some}
 use native.Mathlib.Omega.{arith}
 use lib.Dec.{eqb, leb}
@@ -11,12 +10,13 @@ use lib.IntN.{ℤ, pos, negsuc}
 use lib.Signed.{leZ}
 use lib.ListN.{length, take, drop}
 use lib.Seq.{take-append-seam}
-use borrow.Author.Tests.{eq-eqb, ne-eqb, eqb-true, le-leb, leb-true}
-use Rattle.text.specs.Lists.{oneItem}
+use borrow.Author.Tests.{eq-eqb, ne-eqb, eqb-true, le-leb, leb-true, not-false}
+use Rattle.text.specs.Lists.{oneItem, laterItems}
 use Rattle.text.specs.declared.Items.{Items}
 use Rattle.text.proofs.ListLaws.{keep}
-use Rattle.layer.proofs.Tests.{and-both}
-use Rattle.layer.specs.Defaults.{defaultAxis, isDefaultRounding, isDefaultAxisAttribute}
+use Rattle.layer.proofs.Tests.{both-ways, and-both, and-true, or-neither, within-both}
+use Rattle.layer.specs.Axes.{axesIn, usesY, usesZ}
+use Rattle.layer.specs.Defaults.{isDefaultRounding, isDefaultAxisAttribute}
 use Rattle.layer.specs.Kinds.{isPool, isTransposed}
 use Rattle.layer.specs.declared.Op.{Op}
 use Rattle.layer.specs.declared.Op.the-variants.{Convolution, Transposed, MaxPool}
@@ -29,16 +29,17 @@ use Rattle.values.specs.Kinds.{opOf, opItems, autoPadOf, autoPadItems, rounding
 use Rattle.values.specs.declared.Field.the-variants.{NumberList}
 use Rattle.lines.specs.Form.{Form, layer, readForm, showForm}
 use Rattle.lines.specs.declared.Read.the-variants.{Sheet, Refused}
-use Rattle.fields.specs.Layers.{inputNumbers, kernelNumbers, kernelOf, lastOf, yAxis, sizedLayer, paddedLayer, pairList, inputList, kernelList}
+use Rattle.fields.specs.Layers.{inputNumbers, kernelNumbers, kernelOf, perAxis, withSizes, withPads, sizedLayer, paddedLayer, axisList, inputList, kernelList}
+use Rattle.fields.specs.declared.PerAxis.{PerAxis}
 use Rattle.fields.specs.Sheet.{sizeLines, padLines, lastLines, sheetForm, sheetValues, showSheet}
-use Rattle.faults.specs.Faults.{badAxes, badAxis, hides, hidesSizes}
+use Rattle.faults.specs.Faults.{badAxis, hides, hidesSizes, isDefaultPadding}
 use Rattle.writer.specs.Writer.{written}
 use Rattle.writer.specs.declared.Written.{Written}
 use Rattle.sheet.specs.Sheet.{readSheet, writeSheet, bufferAfter}
-use Rattle.values.proofs.ValueLaws.{op-again, auto-pad-again, rounding-again, op-readable, auto-pad-readable, rounding-readable, op-back, auto-pad-back, rounding-back, OneTwo, axes-readable, axes-back, OneDigit, axis-readable, axis-again, axis-back, list-readable, list-back}
+use Rattle.values.proofs.ValueLaws.{op-again, auto-pad-again, rounding-again, op-readable, auto-pad-readable, rounding-readable, op-back, auto-pad-back, rounding-back, axes-readable, axes-back, OneDigit, axis-readable, axis-again, axis-back, list-readable, list-back}
 use Rattle.lines.proofs.FormLaws.{Says, form-there, form-back, form-numbered}
-use Rattle.fields.proofs.Fits.{U32, LayerFits}
-use Rattle.fields.proofs.LayerLaws.{Counted, ListOk, pair-counted, input-counted, kernel-counted, pair-ok, input-ok, kernel-ok, pair-same, input-same, kernel-same}
+use Rattle.fields.proofs.Fits.{U32, AxisFits, LayerFits}
+use Rattle.fields.proofs.LayerLaws.{onAxes, listed, Counted, ListOk, by-axes, axes-again, list-again, axes-counted, input-counted, kernel-counted, axis-ok, input-ok, kernel-ok, input-again, kernel-again}
 use Rattle.faults.proofs.FaultLaws.{Passed, passed, passed-fine}
 use Rattle.writer.proofs.WriteLaws.{enough, taken}
 
@@ -51,28 +52,9 @@ module _ (count : ℕ) (c : Counted count) (items : Items) where
   list-kept e = list-back count (c .0) items (c .1) (c .2) e
 
 -- ---- what a passed test says
-good-axes : (axes : ℕ) → badAxes axes ≡ false → OneTwo axes
-unfolding OneTwo
-good-axes axes e = go (eqb axes 1) (eqb axes 2) refl refl e
-  where
-    go : (a b : Bool) → eqb axes 1 ≡ a → eqb axes 2 ≡ b → not a && not b ≡ false → (axes ≡ 1) ⊎ (axes ≡ 2)
-    go true b p q r = inl (eqb-true axes 1 p)
-    go false true p q r = inr (eqb-true axes 2 q)
-    go false false p q r = absurd (false≢true cc)
-
-not-bad-axes : (axes : ℕ) → OneTwo axes → badAxes axes ≡ false
-unfolding OneTwo
-not-bad-axes axes (inl e) = rw e
-not-bad-axes axes (inr e) = rw e
-
-both : (a b : Bool) → not (a && b) ≡ false → (a ≡ true) × (b ≡ true)
-both true true e = (refl, refl)
-both true false e = absurd (false≢true cc)
-both false b e = absurd (false≢true cc)
-
 good-axis : (z : ℤ) → badAxis z ≡ false → OneDigit z
-good-axis (pos n) e = leb-true n 9 (both (leZ (negsuc 8) (pos n)) (leZ (pos n) (pos 9)) e .1)
-good-axis (negsuc n) e = leb-true n 8 (both (leZ (negsuc 8) (negsuc n)) (leZ (negsuc n) (pos 9)) e .0)
+good-axis (pos n) e = leb-true n 9 (and-both (leZ (negsuc 8) (pos n)) (leZ (pos n) (pos 9)) (not-false _ e) .1)
+good-axis (negsuc n) e = leb-true n 8 (and-both (leZ (negsuc 8) (negsuc n)) (leZ (negsuc n) (pos 9)) (not-false _ e) .0)
 
 not-bad-axis : (z : ℤ) → OneDigit z → badAxis z ≡ false
 not-bad-axis (pos n) h = rw (le-leb n 9 h)
@@ -81,8 +63,7 @@ not-bad-axis (negsuc n) h = rw (le-leb n 8 h)
 -- a line that its operator does not use is at its default, as the writer and as the reader test it
 used-line : (u d v : Bool) → (d ≡ true → v ≡ true) → not u && not d ≡ false → u || v ≡ true
 used-line true d v h e = refl
-used-line false true v h e = h refl
-used-line false false v h e = absurd (false≢true cc)
+used-line false d v h e = h (not-false d e)
 
 line-used : (u d v : Bool) → (v ≡ true → d ≡ true) → u || v ≡ true → not u && not d ≡ false
 line-used true d v h e = refl
@@ -92,203 +73,202 @@ rounding-default : (r : Rounding) → isDefaultRounding r ≡ isDefaultValue (ro
 rounding-default Floor = refl
 rounding-default Ceil = refl
 
-zero-only : (n : ℕ) → leb 0 n && leb n 0 ≡ eqb n 0 && true
-zero-only n = rw (le-leb 0 n (omega arith)) (go (leb n 0) (eqb n 0) refl refl)
-  where
-    go : (a b : Bool) → leb n 0 ≡ a → eqb n 0 ≡ b → a ≡ b && true
-    go a true p q = sym p ∙ le-leb n 0 (omega (arith, eqb-true n 0 q))
-    go true false p q = let z : n ≡ 0 = omega (arith, leb-true n 0 p) in sym (eq-eqb n 0 z) ∙ q
-    go false false p q = refl
+zero-only : (n : ℕ) → leb 0 n && leb n 0 ≡ eqb n 0
+zero-only n =
+    both-ways (leb 0 n && leb n 0) (eqb n 0) (λ e. eq-eqb n 0 (omega (arith, within-both 0 0 n e))) (λ e. rw (eqb-true n 0 e))
 
 axis-default : (z : ℤ) → isDefaultAxisAttribute z ≡ isDefaultValue (axisItems z)
-axis-default (pos n) = zero-only n
+axis-default (pos n) = zero-only n ∙ sym (and-true (eqb n 0 && true) ∙ and-true (eqb n 0))
 axis-default (negsuc n) = sym (rw (ne-eqb (suc n) 0 (λ e. omega (arith, e))))
 
-pair-default : (axes y x : ℕ) → eqb y 0 && eqb x 0 ≡ true → isDefaultValue (pairList axes y x) ≡ true
-pair-default axes y x e = let t = and-both (eqb y 0) (eqb x 0) e in go (eqb axes 1) (t .0) (t .1)
-  where
-    go : (b : Bool) → eqb y 0 ≡ true → eqb x 0 ≡ true
-        → isDefaultValue (cond b (oneItem x) (record { a = y; b = x; c = 0; d = 0; e = 0; f = 0 })) ≡ true
-    go true p q = rw q
-    go false p q = rw (p, q)
+all-three : (a b c : Bool) → a && b && c ≡ true → (a ≡ true) × (b ≡ true) × (c ≡ true)
+all-three a b c e = let t = and-both (a && b) c e in let s = and-both a b (t .0) in (s .0, s .1, t .1)
+
+-- output paddings that are at their defaults: of the axes, so those of their list; of a list, so those of the axes
+module _ (axes : ℕ) (h : axesIn axes ≡ true) where
+  list-default : (z y x : ℕ) → isDefaultPadding z && isDefaultPadding y && isDefaultPadding x ≡ true → isDefaultValue (axisList axes z y x) ≡ true
+  list-default z y x e =
+      let t = all-three (eqb z 0) (eqb y 0) (eqb x 0) e in
+      by-axes axes h (λ n. isDefaultValue (axisList n z y x) ≡ true) (rw (t .2)) (rw (t .1, t .2)) e
+
+  axes-default : (items : Items) → isDefaultValue items ≡ true → let p = onAxes axes 0 items in
+      isDefaultPadding (p .z) && isDefaultPadding (p .y) && isDefaultPadding (p .x) ≡ true
+  axes-default items e =
+      let t = all-three (eqb (items .a) 0) (eqb (items .b) 0) (eqb (items .c) 0) e in
+      by-axes axes h (λ n. let p = onAxes n 0 items in isDefaultPadding (p .z) && isDefaultPadding (p .y) && isDefaultPadding (p .x) ≡ true)
+      (rw (t .0)) (rw (t .0, t .1)) e
 
 -- ---- a layer from its own lists
 
--- a test that a value is at its default, where it must be
-must : (b d : Bool) → b && not d ≡ false → b ≡ true → d ≡ true
-must true true e q = refl
-must true false e q = absurd (false≢true cc)
-must false d e q = absurd (false≢true cc)
+-- an axis that is not used is at its default
+at-default : (used : Bool) (v d : ℕ) → not used && not (eqb v d) ≡ false → used ≡ false → v ≡ d
+at-default true v d e q = absurd (false≢true (sym q))
+at-default false v d e q = eqb-true v d (not-false (eqb v d) e)
 
-shown-y : (axes y d : ℕ) → hides axes y d ≡ false → axes ≡ 1 → y ≡ d
-shown-y axes y d e q = eqb-true y d (must (eqb axes 1) (eqb y d) e (eq-eqb axes 1 q))
-
--- with one axis Y is not used
-y-default : (l : Layer) → Passed l → l .axes ≡ 1 → l .y ≡ defaultAxis
-y-default l p e =
-    let a = shown-y (l .axes) (l .y .input) 1 (p .input) e in
-    let b = shown-y (l .axes) (l .y .kernel) 1 (p .kernel) e in
-    let c = shown-y (l .axes) (l .y .stride) 1 (p .stride) e in
-    let d = shown-y (l .axes) (l .y .dilation) 1 (p .dilation) e in
-    let f = shown-y (l .axes) (l .y .«pad_begin») 0 (p .begin) e in
-    let g = shown-y (l .axes) (l .y .«pad_end») 0 (p .end) e in
-    let h = shown-y (l .axes) (l .y .«output_padding») 0 (p .padding) e in
-    λ i. record { input = a i; kernel = b i; stride = c i; dilation = d i; «pad_begin» = f i; «pad_end» = g i; «output_padding» = h i }
-
-kernel-back : (op : Op) (axes g o i y x : ℕ) → hidesSizes op g o i ≡ false
-    → kernelOf op (kernelList op axes g o i y x) ≡ record { g = g; o = o; i = i; first = pairList axes y x .a; second = pairList axes y x .b }
-kernel-back Convolution axes g o i y x e = refl
-kernel-back Transposed axes g o i y x e = refl
-kernel-back MaxPool axes g o i y x e =
-    let t = and-both (eqb g 1 && eqb o 1) (eqb i 1) (must true (eqb g 1 && eqb o 1 && eqb i 1) e refl) in
-    let s = and-both (eqb g 1) (eqb o 1) (t .0) in
-    let a = eqb-true g 1 (s .0) in
-    let b = eqb-true o 1 (s .1) in
-    let c = eqb-true i 1 (t .1) in
-    λ j. record { g = sym a j; o = sym b j; i = sym c j; first = pairList axes y x .a; second = pairList axes y x .b }
-
-abbrev sizedFrom : Layer → Layer
-sizedFrom l =
-    sizedLayer (l .op) (l .axes) (inputList (l .axes) (l .n) (l .c) (l .y .input) (l .x .input))
-    (kernelList (l .op) (l .axes) (l .g) (l .o) (l .i) (l .y .kernel) (l .x .kernel)) (pairList (l .axes) (l .y .stride) (l .x .stride))
-    (pairList (l .axes) (l .y .dilation) (l .x .dilation))
-
-layer-back : (l : Layer) → Passed l
-    → paddedLayer (sizedFrom l) (l .«auto_pad») (pairList (l .axes) (l .y .«pad_begin») (l .x .«pad_begin»))
-    (pairList (l .axes) (l .y .«pad_end») (l .x .«pad_end»)) (pairList (l .axes) (l .y .«output_padding») (l .x .«output_padding»)) (l .rounding)
-    (l .axis)
-    ≡ l
-unfolding OneTwo
-layer-back l p =
-    let k = kernel-back (l .op) (l .axes) (l .g) (l .o) (l .i) (l .y .kernel) (l .x .kernel) (p .sizes) in
-    ⊎-elim
-    (λ (e : l .axes ≡ 1). rw (k, eq-eqb (l .axes) 1 e)
-    (ap (λ (y : Axis).
-    record {
-      op = l .op;
-      axes = l .axes;
-      n = l .n;
-      c = l .c;
-      g = l .g;
-      o = l .o;
-      i = l .i;
-      y = y;
-      x = l .x;
-      «auto_pad» = l .«auto_pad»;
-      rounding = l .rounding;
-      axis = l .axis;
-    }) (sym (y-default l p e))))
-    (λ (e : l .axes ≡ 2). rw (k, ne-eqb (l .axes) 1 (λ q. omega (arith, q))))
-    (good-axes (l .axes) (p .axes))
-
--- ---- the values of a layer's lines say the layer
+kernel-back : (op : Op) (axes g o i z y x : ℕ) → hidesSizes op g o i ≡ false → let list = axisList axes z y x in
+    kernelOf op (kernelList op axes g o i z y x) ≡ record { g = g; o = o; i = i; first = list .a; second = list .b; third = list .c }
+kernel-back Convolution axes g o i z y x e = refl
+kernel-back Transposed axes g o i z y x e = refl
+kernel-back MaxPool axes g o i z y x e =
+    let list = axisList axes z y x in
+    let t = all-three (eqb g 1) (eqb o 1) (eqb i 1) (not-false _ e) in
+    let a = eqb-true g 1 (t .0) in
+    let b = eqb-true o 1 (t .1) in
+    let c = eqb-true i 1 (t .2) in
+    λ j. record { g = sym a j; o = sym b j; i = sym c j; first = list .a; second = list .b; third = list .c }
 
 -- one line more: its value is read again, it is used or at its default, and the lines after it say the layer
 said : {A B C : Type 0} → A → B → C → A × B × C
 said a b c = (a, b, c)
 
-module _ (l : Layer) (p : Passed l) (f : LayerFits l) where
-  pair-there : (y x : ℕ) → U32 y → U32 x
-      → fieldValue (NumberList (l .axes)) (showField (NumberList (l .axes)) (pairList (l .axes) y x)) ≡ some (pairList (l .axes) y x)
-  unfolding OneTwo
-  pair-there y x h k =
-      let o = good-axes (l .axes) (p .axes) in
-      list-there (l .axes) (pair-counted (l .axes) o) _ (pair-ok (l .axes) o y x h k)
+module _ (l : Layer) (p : Passed l) where
+  -- a field of every axis, and its list
+  abbrev every : (Axis → ℕ) → PerAxis
+  every φ = record { z = φ (l .z); y = φ (l .y); x = φ (l .x) }
 
-  -- the lines after the input's
-  abbrev afterInput : Op → Form
-  afterInput op =
-      sizeLines op (l .axes) λ kernel strides dilations.
-      padLines (l .axes) λ mode begin end.
-      lastLines op (l .axes) λ padding rounding axis.
-      layer
-      (paddedLayer (sizedLayer op (l .axes) (inputList (l .axes) (l .n) (l .c) (l .y .input) (l .x .input)) kernel strides dilations) (autoPadOf mode)
-      begin end padding (roundingOf rounding) (axisOf axis))
+  abbrev listOf : (Axis → ℕ) → Items
+  listOf φ = listed (l .axes) (every φ)
 
-  says-sizes : Says (afterInput (l .op)) (drop 3 (sheetValues l)) l
-  unfolding Says sheetValues OneTwo
-  says-sizes =
-      let o = good-axes (l .axes) (p .axes) in
-      let z = good-axis (l .axis) (p .axis) in
-      said (list-there (kernelNumbers (l .op) (l .axes)) (kernel-counted (l .axes) o (l .op)) _
-      (kernel-ok (l .axes) o (l .op) (l .g) (l .o) (l .i) (l .y .kernel) (l .x .kernel) (f .g) (f .o) (f .i) (f .y .kernel) (f .x .kernel))) refl
-      (said (pair-there (l .y .stride) (l .x .stride) (f .y .stride) (f .x .stride)) refl
-      (said (pair-there (l .y .dilation) (l .x .dilation) (f .y .dilation) (f .x .dilation)) refl
-      (said (auto-pad-readable (l .«auto_pad»)) refl
-      (said (pair-there (l .y .«pad_begin») (l .x .«pad_begin») (f .y .pad-begin) (f .x .pad-begin)) refl
-      (said (pair-there (l .y .«pad_end») (l .x .«pad_end») (f .y .pad-end) (f .x .pad-end)) refl
-      (said (pair-there (l .y .«output_padding») (l .x .«output_padding») (f .y .output-padding) (f .x .output-padding))
-      (used-line (isTransposed (l .op)) _ _ (pair-default (l .axes) (l .y .«output_padding») (l .x .«output_padding»)) (p .used-padding))
-      (said (rounding-readable (l .rounding))
-      (used-line (isPool (l .op)) _ _ (λ q. sym (rounding-default (l .rounding)) ∙ q) (p .used-rounding))
-      (said (axis-readable (l .axis) z)
-      (used-line (isPool (l .op)) _ _ (λ q. sym (axis-default (l .axis)) ∙ q) (p .used-axis))
-      ((λ i. paddedLayer (sizedFrom l) (auto-pad-again (l .«auto_pad») i) (pairList (l .axes) (l .y .«pad_begin») (l .x .«pad_begin»))
-      (pairList (l .axes) (l .y .«pad_end») (l .x .«pad_end»)) (pairList (l .axes) (l .y .«output_padding») (l .x .«output_padding»))
-      (rounding-again (l .rounding) i) (axis-again (l .axis) z i))
-      ∙ layer-back l p)))))))))
+  abbrev inputOf : Items
+  inputOf = inputList (l .axes) (l .n) (l .c) (l .z .input) (l .y .input) (l .x .input)
 
-  says-there : Says sheetForm (sheetValues l) l
-  unfolding Says sheetForm sheetValues OneTwo
-  says-there =
-      let o = good-axes (l .axes) (p .axes) in
-      said (op-readable (l .op)) refl
-      (said (axes-readable (l .axes) o) refl
-      (said (list-there (inputNumbers (l .axes)) (input-counted (l .axes) o) _
-      (input-ok (l .axes) o (l .n) (l .c) (l .y .input) (l .x .input) (f .n) (f .c) (f .y .input) (f .x .input))) refl
-      (subst (λ (op : Op). Says (afterInput op) (drop 3 (sheetValues l)) l) (sym (op-again (l .op))) says-sizes)))
+  abbrev sizedFrom : Layer
+  sizedFrom =
+      sizedLayer (l .op) (l .axes) inputOf (kernelList (l .op) (l .axes) (l .g) (l .o) (l .i) (l .z .kernel) (l .y .kernel) (l .x .kernel))
+      (listOf (λ a. a .stride)) (listOf (λ a. a .dilation))
 
-  -- Reading what was written, from any line number and place on.
-  pub sheet-there : (first : ℕ) (s : List ℕ) (at : ℕ) → drop at s ≡ showSheet l → at ≤ length s → readForm sheetForm first s at ≡ Sheet l
-  unfolding showSheet
-  sheet-there first s at h b = form-there sheetForm (sheetValues l) l says-there first s at h b
+  axes-good : axesIn (l .axes) ≡ true
+  axes-good = not-false (axesIn (l .axes)) (p .axes)
+
+  -- a field's list gives the field of every axis again
+  again : (φ : Axis → ℕ) (d : ℕ) → hides (l .axes) (φ (l .z)) (φ (l .y)) d ≡ false → onAxes (l .axes) d (listOf φ) ≡ every φ
+  again φ d e =
+      let b = or-neither (not (usesZ (l .axes)) && not (eqb (φ (l .z)) d)) (not (usesY (l .axes)) && not (eqb (φ (l .y)) d)) e in
+      axes-again (l .axes) axes-good d (every φ) (at-default (usesZ (l .axes)) (φ (l .z)) d (b .0)) (at-default (usesY (l .axes)) (φ (l .y)) d (b .1))
+
+  layer-back : paddedLayer sizedFrom (l .«auto_pad») (listOf (λ a. a .«pad_begin»)) (listOf (λ a. a .«pad_end»)) (listOf (λ a. a .«output_padding»))
+      (l .rounding) (l .axis)
+      ≡ l
+  unfolding sizedLayer paddedLayer
+  layer-back =
+      let k = kernel-back (l .op) (l .axes) (l .g) (l .o) (l .i) (l .z .kernel) (l .y .kernel) (l .x .kernel) (p .sizes) in
+      let input = again (λ a. a .input) 1 (p .input) in
+      let kernel = (λ j. perAxis (l .axes) 1 (k j .first) (k j .second) (k j .third)) ∙ again (λ a. a .kernel) 1 (p .kernel) in
+      let stride = again (λ a. a .stride) 1 (p .stride) in
+      let dilation = again (λ a. a .dilation) 1 (p .dilation) in
+      let begin = again (λ a. a .«pad_begin») 0 (p .begin) in
+      let end = again (λ a. a .«pad_end») 0 (p .end) in
+      let padding = again (λ a. a .«output_padding») 0 (p .padding) in
+      λ j. record {
+        op = l .op;
+        axes = l .axes;
+        n = l .n;
+        c = l .c;
+        g = k j .g;
+        o = k j .o;
+        i = k j .i;
+        z = withPads (withSizes (l .z) (input j .z) (kernel j .z) (stride j .z) (dilation j .z)) (begin j .z) (end j .z) (padding j .z);
+        y = withPads (withSizes (l .y) (input j .y) (kernel j .y) (stride j .y) (dilation j .y)) (begin j .y) (end j .y) (padding j .y);
+        x = withPads (withSizes (l .x) (input j .x) (kernel j .x) (stride j .x) (dilation j .x)) (begin j .x) (end j .x) (padding j .x);
+        «auto_pad» = l .«auto_pad»;
+        rounding = l .rounding;
+        axis = l .axis;
+      }
+
+  -- ---- the values of a layer's lines say the layer
+  module _ (f : LayerFits l) where
+    axes-there : (φ : Axis → ℕ) → ((a : Axis) → AxisFits a → U32 (φ a))
+        → fieldValue (NumberList (l .axes)) (showField (NumberList (l .axes)) (listOf φ)) ≡ some (listOf φ)
+    axes-there φ u =
+        list-there (l .axes) (axes-counted (l .axes) axes-good) _
+        (axis-ok (l .axes) axes-good (φ (l .z)) (φ (l .y)) (φ (l .x)) (u (l .z) (f .z)) (u (l .y) (f .y)) (u (l .x) (f .x)))
+
+    -- the lines after the input's
+    abbrev afterInput : Op → Form
+    afterInput op =
+        sizeLines op (l .axes) λ kernel strides dilations.
+        padLines (l .axes) λ mode begin end.
+        lastLines op (l .axes) λ padding rounding axis.
+        layer
+        (paddedLayer (sizedLayer op (l .axes) inputOf kernel strides dilations) (autoPadOf mode) begin end padding (roundingOf rounding)
+        (axisOf axis))
+
+    says-sizes : Says (afterInput (l .op)) (drop 3 (sheetValues l)) l
+    unfolding Says sheetValues
+    says-sizes =
+        let z = good-axis (l .axis) (p .axis) in
+        said (list-there (kernelNumbers (l .op) (l .axes)) (kernel-counted (l .axes) axes-good (l .op)) _
+        (kernel-ok (l .axes) axes-good (l .z .kernel) (l .y .kernel) (l .x .kernel) (f .z .kernel) (f .y .kernel) (f .x .kernel) (l .op) (l .g) (l .o) (l .i)
+        (f .g) (f .o) (f .i))) refl
+        (said (axes-there (λ a. a .stride) (λ a u. u .stride)) refl
+        (said (axes-there (λ a. a .dilation) (λ a u. u .dilation)) refl
+        (said (auto-pad-readable (l .«auto_pad»)) refl
+        (said (axes-there (λ a. a .«pad_begin») (λ a u. u .pad-begin)) refl
+        (said (axes-there (λ a. a .«pad_end») (λ a u. u .pad-end)) refl
+        (said (axes-there (λ a. a .«output_padding») (λ a u. u .output-padding))
+        (used-line (isTransposed (l .op)) _ _ (list-default (l .axes) axes-good (l .z .«output_padding») (l .y .«output_padding») (l .x .«output_padding»))
+        (p .used-padding))
+        (said (rounding-readable (l .rounding))
+        (used-line (isPool (l .op)) _ _ (λ q. sym (rounding-default (l .rounding)) ∙ q) (p .used-rounding))
+        (said (axis-readable (l .axis) z)
+        (used-line (isPool (l .op)) _ _ (λ q. sym (axis-default (l .axis)) ∙ q) (p .used-axis))
+        ((λ i. paddedLayer sizedFrom (auto-pad-again (l .«auto_pad») i) (listOf (λ a. a .«pad_begin»)) (listOf (λ a. a .«pad_end»))
+        (listOf (λ a. a .«output_padding»)) (rounding-again (l .rounding) i) (axis-again (l .axis) z i))
+        ∙ layer-back)))))))))
+
+    says-there : Says sheetForm (sheetValues l) l
+    unfolding Says sheetForm sheetValues
+    says-there =
+        said (op-readable (l .op)) refl
+        (said (axes-readable (l .axes) axes-good) refl
+        (said (list-there (inputNumbers (l .axes)) (input-counted (l .axes) axes-good) _
+        (input-ok (l .axes) axes-good (l .z .input) (l .y .input) (l .x .input) (f .z .input) (f .y .input) (f .x .input) (l .n) (l .c) (f .n) (f .c))) refl
+        (subst (λ (op : Op). Says (afterInput op) (drop 3 (sheetValues l)) l) (sym (op-again (l .op))) says-sizes)))
+
+    -- Reading what was written, from any line number and place on.
+    pub sheet-there : (first : ℕ) (s : List ℕ) (at : ℕ) → drop at s ≡ showSheet l → at ≤ length s → readForm sheetForm first s at ≡ Sheet l
+    unfolding showSheet
+    sheet-there first s at h b = form-there sheetForm (sheetValues l) l says-there first s at h b
 
 -- ---- the values that say a layer are those of its lines, and the writer takes it
 
 -- nothing of a layer that was made of lists is hidden
-nothing-hidden : (axes d : ℕ) (φ : Axis → ℕ) (unused used : Axis) → (axes ≡ 1 → φ unused ≡ d) → hides axes (φ (yAxis axes unused used)) d ≡ false
-nothing-hidden axes d φ unused used h = go (eqb axes 1) refl
-  where
-    go : (b : Bool) → eqb axes 1 ≡ b → b && not (eqb (φ (cond b unused used)) d) ≡ false
-    go true e = rw (eq-eqb (φ unused) d (h (eqb-true axes 1 e)))
-    go false e = refl
+none-hidden : (axes : ℕ) → axesIn axes ≡ true → (d first second third : ℕ) → let p = perAxis axes d first second third in hides axes (p .z) (p .y) d ≡ false
+none-hidden axes h d first second third =
+    let e = eq-eqb d d refl in
+    by-axes axes h (λ n. let p = perAxis n d first second third in hides n (p .z) (p .y) d ≡ false) (rw e) (rw e) refl
 
 no-sizes-hidden : (op : Op) (items : Items) → hidesSizes op (kernelOf op items .g) (kernelOf op items .o) (kernelOf op items .i) ≡ false
 no-sizes-hidden Convolution items = refl
 no-sizes-hidden Transposed items = refl
 no-sizes-hidden MaxPool items = refl
 
-padding-default : (axes : ℕ) (items : Items) (φ : Axis → ℕ) (unused used : Axis) → (axes ≡ 1 → φ unused ≡ 0) → φ used ≡ items .a
-    → isDefaultValue items ≡ true → eqb (φ (yAxis axes unused used)) 0 && eqb (lastOf axes (items .a) (items .b)) 0 ≡ true
-padding-default axes items φ unused used h k e =
-    let d = and-both (eqb (items .a) 0) (eqb (items .b) 0) e in go (eqb axes 1) refl (d .0) (d .1)
-  where
-    go : (b : Bool) → eqb axes 1 ≡ b → eqb (items .a) 0 ≡ true → eqb (items .b) 0 ≡ true
-        → eqb (φ (cond b unused used)) 0 && eqb (cond b (items .a) (items .b)) 0 ≡ true
-    go true q m n = rw (h (eqb-true axes 1 q), m)
-    go false q m n = rw (k, m, n)
-
-module _ (op axes input kernel strides dilations mode begin end padding rounding axis : Items) (o : OneTwo (axes .a)) where
+module _ (op axes input kernel strides dilations mode begin end padding rounding axis : Items) (o : axesIn (axes .a) ≡ true) where
   abbrev made : Layer
   made =
       paddedLayer (sizedLayer (opOf op) (axes .a) input kernel strides dilations) (autoPadOf mode) begin end padding (roundingOf rounding)
       (axisOf axis)
 
+  -- the numbers of a list for the axes
+  shown : (d : ℕ) (items : Items) → let p = onAxes (axes .a) d items in hides (axes .a) (p .z) (p .y) d ≡ false
+  shown d items = none-hidden (axes .a) o d (items .a) (items .b) (items .c)
+
   made-passed : OneDigit (axisOf axis) → isTransposed (opOf op) || isDefaultValue padding ≡ true → isPool (opOf op) || isDefaultValue rounding ≡ true
       → isPool (opOf op) || isDefaultValue axis ≡ true → roundingItems (roundingOf rounding) ≡ rounding → axisItems (axisOf axis) ≡ axis → Passed made
+  unfolding sizedLayer paddedLayer
   made-passed z u v w r a =
+      let k = kernelOf (opOf op) kernel in
       record {
-        axes = not-bad-axes (axes .a) o;
-        input = nothing-hidden (axes .a) 1 (λ (a : Axis). a .input) _ _ (λ e. rw e);
-        kernel = nothing-hidden (axes .a) 1 (λ (a : Axis). a .kernel) _ _ (λ e. rw e);
+        axes = ap not o;
+        input = shown 1 (laterItems (laterItems input));
+        kernel = none-hidden (axes .a) o 1 (k .first) (k .second) (k .third);
         sizes = no-sizes-hidden (opOf op) kernel;
-        stride = nothing-hidden (axes .a) 1 (λ (a : Axis). a .stride) _ _ (λ e. rw e);
-        dilation = nothing-hidden (axes .a) 1 (λ (a : Axis). a .dilation) _ _ (λ e. rw e);
-        begin = nothing-hidden (axes .a) 0 (λ (a : Axis). a .«pad_begin») _ _ (λ e. rw e);
-        end = nothing-hidden (axes .a) 0 (λ (a : Axis). a .«pad_end») _ _ (λ e. rw e);
-        padding = nothing-hidden (axes .a) 0 (λ (a : Axis). a .«output_padding») _ _ (λ e. rw e);
-        used-padding =
-            line-used (isTransposed (opOf op)) _ _ (padding-default (axes .a) padding (λ (a : Axis). a .«output_padding») _ _ (λ e. rw e) refl) u;
+        stride = shown 1 strides;
+        dilation = shown 1 dilations;
+        begin = shown 0 begin;
+        end = shown 0 end;
+        padding = shown 0 padding;
+        used-padding = line-used (isTransposed (opOf op)) _ _ (axes-default (axes .a) o padding) u;
         used-rounding = line-used (isPool (opOf op)) _ _ (λ q. rounding-default (roundingOf rounding) ∙ ap isDefaultValue r ∙ q) v;
         axis = not-bad-axis (axisOf axis) z;
         used-axis = line-used (isPool (opOf op)) _ _ (λ q. axis-default (axisOf axis) ∙ ap isDefaultValue a ∙ q) w;
@@ -299,27 +279,20 @@ module _ (op axes input kernel strides dilations mode begin end padding rounding
       → autoPadItems (autoPadOf mode) ≡ mode → keep (axes .a) begin ≡ begin → keep (axes .a) end ≡ end → keep (axes .a) padding ≡ padding
       → roundingItems (roundingOf rounding) ≡ rounding → axisItems (axisOf axis) ≡ axis
       → sheetValues made ≡ op ∷ axes ∷ input ∷ kernel ∷ strides ∷ dilations ∷ mode ∷ begin ∷ end ∷ padding ∷ rounding ∷ axis ∷ []
-  unfolding sheetValues OneTwo
+  unfolding sheetValues sizedLayer paddedLayer
   made-values h₁ h₂ h₃ h₄ h₅ h₆ h₇ h₈ h₉ h₁₀ h₁₁ h₁₂ =
-      let e₃ : inputList (axes .a) (input .a) (input .b) (made .y .input) (made .x .input) ≡ input =
-      input-same (axes .a) o (λ (a : Axis). a .input) input _ _ (λ e. rw e) h₃ in
-      let e₄ : kernelList (opOf op) (axes .a) (made .g) (made .o) (made .i) (made .y .kernel) (made .x .kernel) ≡ kernel =
-      kernel-same (axes .a) o (opOf op) (λ (a : Axis). a .kernel) kernel _ _ (λ e. rw e) h₄ in
-      let e₅ : pairList (axes .a) (made .y .stride) (made .x .stride) ≡ strides =
-      pair-same (axes .a) o (λ (a : Axis). a .stride) strides _ _ (λ e. rw e) h₅ in
-      let e₆ : pairList (axes .a) (made .y .dilation) (made .x .dilation) ≡ dilations =
-      pair-same (axes .a) o (λ (a : Axis). a .dilation) dilations _ _ (λ e. rw e) h₆ in
-      let e₈ : pairList (axes .a) (made .y .«pad_begin») (made .x .«pad_begin») ≡ begin =
-      pair-same (axes .a) o (λ (a : Axis). a .«pad_begin») begin _ _ (λ e. refl) h₈ in
-      let e₉ : pairList (axes .a) (made .y .«pad_end») (made .x .«pad_end») ≡ end =
-      pair-same (axes .a) o (λ (a : Axis). a .«pad_end») end _ _ (λ e. refl) h₉ in
-      let e₁₀ : pairList (axes .a) (made .y .«output_padding») (made .x .«output_padding») ≡ padding =
-      pair-same (axes .a) o (λ (a : Axis). a .«output_padding») padding _ _ (λ e. refl) h₁₀ in
+      let e₃ = input-again (axes .a) o 1 input ∙ h₃ in
+      let e₄ = kernel-again (axes .a) o (opOf op) 1 kernel ∙ h₄ in
+      let e₅ = list-again (axes .a) o 1 strides ∙ h₅ in
+      let e₆ = list-again (axes .a) o 1 dilations ∙ h₆ in
+      let e₈ = list-again (axes .a) o 0 begin ∙ h₈ in
+      let e₉ = list-again (axes .a) o 0 end ∙ h₉ in
+      let e₁₀ = list-again (axes .a) o 0 padding ∙ h₁₀ in
       λ i. h₁ i ∷ sym h₂ i ∷ e₃ i ∷ e₄ i ∷ e₅ i ∷ e₆ i ∷ h₇ i ∷ e₈ i ∷ e₉ i ∷ e₁₀ i ∷ h₁₁ i ∷ h₁₂ i ∷ []
 
 -- the lines say a layer with the values of its own sheet and no others
 says-back : (vs : List Items) (l : Layer) → Says sheetForm vs l → (sheetValues l ≡ vs) × Passed l
-unfolding Says sheetForm sheetValues OneTwo
+unfolding Says sheetForm sheetValues
 says-back [] l s = absurd s
 says-back (a ∷ []) l s = absurd (s .2)
 says-back (a ∷ b ∷ []) l s = absurd (s .2 .2)
@@ -349,7 +322,7 @@ says-back (op ∷ axes ∷ input ∷ kernel ∷ strides ∷ dilations ∷ mode �
     let r = rounding-back rounding (s₁₁ .0) in
     let z = axis-back axis (s₁₂ .0) in
     let p : (v : Items) → fieldValue (NumberList (axes .a)) (showField (NumberList (axes .a)) v) ≡ some v → keep (axes .a) v ≡ v =
-    λ v e. list-kept (axes .a) (pair-counted (axes .a) (x .1)) v e in (
+    λ v e. list-kept (axes .a) (axes-counted (axes .a) (x .1)) v e in (
       ap sheetValues (sym (s₁₂ .2))
           ∙ made-values op axes input kernel strides dilations mode begin end padding rounding axis (x .1) (op-back op (s₁ .0)) (x .0)
           (list-kept (inputNumbers (axes .a)) (input-counted (axes .a) (x .1)) input (s₃ .0))

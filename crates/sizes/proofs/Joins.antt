@@ -1,6 +1,6 @@
 -- A tap finds the one position that it joins; two axes are one.
 use Prim.Native.Nat.{ℕ, _+_, _-_, _*_, _/_, _%_, _≤_, _<_}
-use native.Mathlib.Nat.{div-add-mod', mul-mod-left, mul-div-cancel, div-lt-iff-lt-mul, mod-lt}
+use native.Mathlib.Nat.{div-add-mod', mul-mod-left, mul-div-cancel, div-lt-iff-lt-mul, mod-lt, zero-add, zero-mul, zero-div, zero-mod}
 use native.Mathlib.Omega.{arith}
 use mathlib.Core.Path.{_≡_, refl, sym, ap, ap₂, _∙_, subst, fun-ext}
 use mathlib.Core.Bool.{Bool, true, false, cond, _&&_, false≢true}
@@ -9,10 +9,12 @@ use borrow.Author.Tests.{ltb-true, ltb-false, leb-true, leb-false, eqb-true, eqb
 use Rattle.layer.proofs.Tests.{and-both, and-of, both-ways}
 use Rattle.layer.proofs.Places.{place-div, place-mod, place-within}
 use Rattle.sizes.specs.declared.Span.{Span}
+use Rattle.sizes.specs.declared.Direction.{Direction}
+use Rattle.sizes.specs.declared.Direction.the-variants.{Forward, Backward}
 use Rattle.sizes.specs.declared.Tap.{Tap}
 use Rattle.sizes.specs.declared.Tap.the-variants.{Outside, At}
 use Rattle.sizes.specs.Taps.{tapPosition, tapInside}
-use Rattle.sizes.specs.Joins.{joins, forward, positionIn, positionBy, reachOf, backward, both, isAt, Finds, Below}
+use Rattle.sizes.specs.Joins.{joins, forward, positionIn, positionBy, reachOf, backward, tapOn, both, isAt, Finds, Below}
 
 -- ---- a tap that finds
 finds-same : (n : ℕ) (f g : ℕ → Bool) (t : Tap) → ((q : ℕ) → f q ≡ g q) → Finds n f t → Finds n g t
@@ -37,6 +39,11 @@ at-finds n f t q h e = let u = subst (Finds n f) e h in (u .0, u .1)
 pub below-at : (n : ℕ) (t : Tap) (q : ℕ) → Below n t → t ≡ At q → q < n
 unfolding Below
 below-at n t q h e = subst (Below n) e h
+
+pub below-more : (n m : ℕ) (t : Tap) → n ≤ m → Below n t → Below m t
+unfolding Below
+below-more n m (At q) h k = omega arith
+below-more n m Outside h k = tt
 
 finds-none : (n : ℕ) (test : ℕ → Bool) → ((r : ℕ) → r < n → test r ≡ true → ⊥) → Finds n test Outside
 unfolding Finds
@@ -124,6 +131,17 @@ pub backward-below : (s : Span) (q k : ℕ) → Below (s .input) (backward s q k
 unfolding backward
 backward-below s q k = reach-below (s .input) (s .dilation) (s .stride) (q + s .begin) k
 
+-- in either direction
+pub tap-below : (d : Direction) (s : Span) (p k : ℕ) → Below (s .input) (tapOn d s p k)
+tap-below Forward s p k = forward-below s p k
+tap-below Backward s p k = backward-below s p k
+
+-- without padding tap 0 of position 0 lies at position 0
+pub first-tap : (d : Direction) (s : Span) → s .begin ≡ 0 → 0 < s .input → tapOn d s 0 0 ≡ At 0
+unfolding forward backward reachOf positionBy
+first-tap Forward s e h = rw e (simp (zero-mul, lt-ltb 0 (s .input) h))
+first-tap Backward s e h = rw e (simp (zero-mul, zero-mod, zero-div, lt-ltb 0 (s .input) h))
+
 -- ---- two axes as one; so three
 pub both-finds : (n m : ℕ) (f g : ℕ → Bool) (a b : Tap) → 1 ≤ m → Finds n f a → Finds m g b → Finds (n * m) (λ q. f (q / m) && g (q % m)) (both m a b)
 unfolding both Finds
@@ -134,23 +152,26 @@ both-finds n m f g (At i) (At j) h u v = (
       sym (div-add-mod' r m) ∙ ap₂ (λ (x y : ℕ). x * m + y) (u .2 (r / m) (div-lt-iff-lt-mul h .1 l) (t .0)) (v .2 (r % m) (mod-lt r h) (t .1)),
 )
 both-finds n m f g (At i) Outside h u v = λ r l e. v (r % m) (mod-lt r h) (and-both (f (r / m)) (g (r % m)) e .1)
-both-finds n m f g Outside (At j) h u v = λ r l e. u (r / m) (div-lt-iff-lt-mul h .1 l) (and-both (f (r / m)) (g (r % m)) e .0)
-both-finds n m f g Outside Outside h u v = λ r l e. u (r / m) (div-lt-iff-lt-mul h .1 l) (and-both (f (r / m)) (g (r % m)) e .0)
+both-finds n m f g Outside b h u v = λ r l e. u (r / m) (div-lt-iff-lt-mul h .1 l) (and-both (f (r / m)) (g (r % m)) e .0)
 
 pub both-below : (n m : ℕ) (a b : Tap) → Below n a → Below m b → Below (n * m) (both m a b)
 unfolding both Below
 both-below n m (At i) (At j) h k = place-within h k
 both-below n m (At i) Outside h k = tt
-both-below n m Outside (At j) h k = tt
-both-below n m Outside Outside h k = tt
+both-below n m Outside b h k = tt
+
+-- at the first position of the outer axis
+pub both-first : (m : ℕ) (t : Tap) → both m (At 0) t ≡ t
+unfolding both
+both-first m (At j) = ap At (simp (zero-mul, zero-add))
+both-first m Outside = refl
 
 -- inside on both
 pub both-inside : (m : ℕ) (a b : Tap) → isAt (both m a b) ≡ isAt a && isAt b
 unfolding both isAt
 both-inside m (At i) (At j) = refl
 both-inside m (At i) Outside = refl
-both-inside m Outside (At j) = refl
-both-inside m Outside Outside = refl
+both-inside m Outside b = refl
 
 pub forward-inside : (s : Span) (p k : ℕ) → isAt (forward s p k) ≡ tapInside s p k
 unfolding forward isAt

@@ -41,13 +41,12 @@ abbrev pub tapOn : Direction → Span → ℕ → ℕ → Tap
 tapOn Forward = forward
 tapOn Backward = backward
 
--- "Row-major, last axis fastest.": two axes as one, the inner of `size` positions. A tap lies inside where it does on both: "likewise for columns", "and
--- likewise for x".
+-- "Row-major, last axis fastest.": two axes as one, the inner of `size` positions. A tap lies inside where it does on both: "likewise for depths and
+-- columns", "and likewise for z and x".
 unfoldable pub both : ℕ → Tap → Tap → Tap
 both size (At a) (At b) = At (a * size + b)
 both size (At a) Outside = Outside
-both size Outside (At b) = Outside
-both size Outside Outside = Outside
+both size Outside b = Outside
 
 -- whether a tap lies inside the input
 unfoldable pub isAt : Tap → Bool

@@ -9,7 +9,7 @@ use Rattle.tensor.specs.Table.{read, tabulate}
 use Rattle.tensor.specs.declared.Window.{Window}
 use Rattle.tensor.specs.declared.Window.the-variants.{Empty, Best}
 
--- "The best is the largest; among equal ones, and +0 equals -0, the first .. with its own bits."
+-- "The best is the largest; among equal ones, and +0 equals -0, the first .. with its own bits".
 -- A window after one more element: v at place p. `lt` is the < of f32.
 abbrev pub betterOf : Window → Float → ℕ → Window
 betterOf Empty v p = Best v p

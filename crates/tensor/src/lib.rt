@@ -1,36 +1,16 @@
 // Tensors: the element check, the best of a window, the plane picker and the peak finder.
+use counts::quotient;
+use counts::remainder;
 use layer::channels_ok;
 use layer::images_ok;
 use layer::size_ok;
-ghost use Prim.Native.Nat.{_+_, _*_, _/_, _%_, _≤_};
+ghost use Prim.Native.Nat.{_+_, _*_, _≤_};
 ghost use mathlib.Core.Path.{_≡_};
 ghost use lib.ListN.{length};
 ghost use Rattle.tensor.specs.Element.{elementOk, badCount, elementCheck};
 ghost use Rattle.tensor.specs.Window.{betterOf, bestOf, upTo};
 ghost use Rattle.tensor.specs.Plane.{sizesOk, hasPlane, partOf, planeOf};
 ghost use Rattle.tensor.specs.Peak.{noPeak, wrongLength, peakAt, peakOf};
-
-// ---- division by any number
-
-// a / b, and 0 where b is 0.
-fn quotient(a: usize, b: usize) -> usize
-    ensures { λ r. ⌜ r ≡ a / b ⌝ }
-{
-    if b == 0 {
-        return 0;
-    }
-    a / b
-}
-
-// a % b, and a where b is 0.
-fn remainder(a: usize, b: usize) -> usize
-    ensures { λ r. ⌜ r ≡ a % b ⌝ }
-{
-    if b == 0 {
-        return a;
-    }
-    a % b
-}
 
 // ---- the element check
 
@@ -102,22 +82,32 @@ pub fn better(w: Window, v: f32, p: usize) -> Window
 
 // ---- the plane picker
 
-// Number 1's limits of the four sizes.
-fn sizes_ok(n: u32, c: u32, y: u32, x: u32) -> bool
-    ensures { λ r. ⌜ r ≡ sizesOk n c y x ⌝ }
+// Number 1's limits of the five sizes.
+fn sizes_ok(n: u32, c: u32, z: u32, y: u32, x: u32) -> bool
+    ensures { λ r. ⌜ r ≡ sizesOk n c z y x ⌝ }
 {
-    images_ok(n) & (channels_ok(c) & (size_ok(y) & size_ok(x)))
+    images_ok(n) & (channels_ok(c) & (size_ok(z) & (size_ok(y) & size_ok(x))))
 }
 
-// Whether a slice of len elements is a tensor [n, c, y, x] with this image and channel.
-fn has_plane(len: usize, n: u32, c: u32, y: u32, x: u32, image: u32, channel: u32) -> bool
-    ensures { λ r. ⌜ r ≡ hasPlane len n c y x image channel ⌝ }
+// Whether a slice of len elements is a tensor [n, c, z, y, x] with this image, channel and depth.
+fn has_plane(
+    len: usize,
+    n: u32,
+    c: u32,
+    z: u32,
+    y: u32,
+    x: u32,
+    image: u32,
+    channel: u32,
+    depth: u32,
+) -> bool
+    ensures { λ r. ⌜ r ≡ hasPlane len n c z y x image channel depth ⌝ }
 {
-    if !sizes_ok(n, c, y, x) {
+    if !sizes_ok(n, c, z, y, x) {
         return false;
     }
-    let count = n as usize * c as usize * y as usize * x as usize;
-    (len == count) & ((image < n) & (channel < c))
+    let count = n as usize * c as usize * z as usize * y as usize * x as usize;
+    (len == count) & ((image < n) & ((channel < c) & (depth < z)))
 }
 
 // A part of a slice: where it begins and how long it is, in elements.
@@ -126,40 +116,53 @@ pub struct Part {
     pub length: usize,
 }
 
-// The part of a tensor slice of len elements that is the plane of an image and a channel; its empty part where there is none.
-pub fn plane_part(len: usize, n: u32, c: u32, y: u32, x: u32, image: u32, channel: u32) -> Part
-    ensures { λ r. ⌜ r ≡ partOf len n c y x image channel ⌝ }
+// The part of a tensor slice of len elements that is the plane of an image, a channel and a depth; its empty part where there is none.
+pub fn plane_part(
+    len: usize,
+    n: u32,
+    c: u32,
+    z: u32,
+    y: u32,
+    x: u32,
+    image: u32,
+    channel: u32,
+    depth: u32,
+) -> Part
+    ensures { λ r. ⌜ r ≡ partOf len n c z y x image channel depth ⌝ }
     ensures { λ r. ⌜ r .start + r .length ≤ len ⌝ }
 {
-    if !has_plane(len, n, c, y, x, image, channel) {
+    if !has_plane(len, n, c, z, y, x, image, channel, depth) {
         return Part {
             start: 0,
             length: 0,
         };
     }
+    let plane = (image as usize * c as usize + channel as usize) * z as usize + depth as usize;
     let size = y as usize * x as usize;
-    let start = (image as usize * c as usize + channel as usize) * size;
+    let start = plane * size;
     Part {
         start,
         length: size,
     }
 }
 
-// The plane of an image and a channel, as that part of the caller's own slice.
+// The plane of an image, a channel and a depth, as that part of the caller's own slice.
 pub fn pick_plane(
     tensor: &[f32],
     n: u32,
     c: u32,
+    z: u32,
     y: u32,
     x: u32,
     image: u32,
     channel: u32,
+    depth: u32,
 ) -> &[f32]
-    ensures contents { λ r. ⌜ now r ≡ planeOf (now (tensor .entry)) n c y x image channel ⌝ }
+    ensures contents { λ r. ⌜ now r ≡ planeOf (now (tensor .entry)) n c z y x image channel depth ⌝ }
     ensures block { λ r. ⌜ r .ptr .0 ≡ tensor .entry .ptr .0 ⌝ }
-    ensures offset { λ r. ⌜ r .ptr .1 ≡ tensor .entry .ptr .1 + partOf (length (now (tensor .entry))) n c y x image channel .start * 4 ⌝ }
+    ensures offset { λ r. ⌜ r .ptr .1 ≡ tensor .entry .ptr .1 + partOf (length (now (tensor .entry))) n c z y x image channel depth .start * 4 ⌝ }
 {
-    let part = plane_part(tensor.len(), n, c, y, x, image, channel);
+    let part = plane_part(tensor.len(), n, c, z, y, x, image, channel, depth);
     let start = part.start;
     let end = start + part.length;
     &tensor[start..end]

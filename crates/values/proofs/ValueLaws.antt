@@ -1,7 +1,6 @@
 -- Laws of the values of lines: what is read is shown as it stood, and a value and its numbers give each other.
 use Prim.Native.Nat.{ℕ, suc, _+_, _-_, _≤_, _<_}
 use mathlib.Core.Path.{_≡_, refl, sym, ap, _∙_}
-use mathlib.Core.Logic.{_⊎_, inl, inr}
 use mathlib.Core.List.{List, [], _∷_}
 use mathlib.Core.Bool.{Bool, true, false, cond, false≢true}
 use mathlib.Core.Option.{Option, some, none}
@@ -18,47 +17,46 @@ use Rattle.text.specs.Inverse.{Inverse}
 use Rattle.text.specs.declared.Items.{Items}
 use Rattle.text.proofs.NumberLaws.{number-decimal, decimal-number, decimal-absent, decimal-small}
 use Rattle.text.proofs.ListLaws.{InRange, keep, some-last, numbers-inverse, numbers-shown, numbers-read}
+use Rattle.layer.specs.Axes.{axesIn}
 use Rattle.layer.specs.declared.Op.{Op}
 use Rattle.layer.specs.declared.Op.the-variants.{Convolution, Transposed, MaxPool}
 use Rattle.layer.specs.declared.AutoPad.{AutoPad}
 use Rattle.layer.specs.declared.AutoPad.the-variants.{Explicit, SameUpper, SameLower, Valid}
 use Rattle.layer.specs.declared.Rounding.{Rounding}
 use Rattle.layer.specs.declared.Rounding.the-variants.{Floor, Ceil}
+use Rattle.layer.proofs.Tests.{within-both}
 use Rattle.values.specs.declared.Field.{Field}
 use Rattle.values.specs.declared.Field.the-variants.{OpWord, AxesNumber, NumberList, AutoPadWord, RoundingWord, AxisDigit}
 use Rattle.values.specs.Words.{wordAt, wordFrom}
-use Rattle.values.specs.Values.{opWords, autoPadWords, roundingWords, oneOrTwo, signed, digitFrom, axisNumber, showAxis, fieldValue, showField, unread}
+use Rattle.values.specs.Values.{opWords, autoPadWords, roundingWords, axesNumber, signed, digitFrom, axisNumber, showAxis, fieldValue, showField, unread}
 use Rattle.values.specs.Kinds.{opOf, opItems, autoPadOf, autoPadItems, roundingOf, roundingItems, axisOf, axisItems}
 use Rattle.values.proofs.WordLaws.{word-inverse, word-back}
 
 -- ---- the number of axes
-unfoldable pub OneTwo : ℕ → Type 0
-OneTwo n = (n ≡ 1) ⊎ (n ≡ 2)
+cond-some : {A : Type 0} (b : Bool) {x : Option A} {v : A} → cond b x none ≡ some v → (b ≡ true) × (x ≡ some v)
+cond-some true e = (refl, e)
+cond-some false e = absurd (false≢true cc)
 
-one-two : (o : Option ℕ) (n : ℕ) → oneOrTwo o ≡ some n → (o ≡ some n) × OneTwo n
-unfolding oneOrTwo OneTwo
-one-two none n e = absurd (false≢true cc)
-one-two (some m) n e = go (eqb m 1) (eqb m 2) refl refl e
-  where
-    go : (a b : Bool) → eqb m 1 ≡ a → eqb m 2 ≡ b → cond a (some m) (cond b (some m) none) ≡ some n
-        → (_≡_ {A = Option ℕ} (some m) (some n)) × ((n ≡ 1) ⊎ (n ≡ 2))
-    go true b p q r = let z : m ≡ n = cc in (r, inl (sym z ∙ eqb-true m 1 p))
-    go false true p q r = let z : m ≡ n = cc in (r, inr (sym z ∙ eqb-true m 2 q))
-    go false false p q r = absurd (false≢true cc)
+some-axes : (o : Option ℕ) (n : ℕ) → axesNumber o ≡ some n → (o ≡ some n) × (axesIn n ≡ true)
+unfolding axesNumber
+some-axes none n e = absurd (false≢true cc)
+some-axes (some m) n e =
+    let c = cond-some (axesIn m) e in
+    let z : m ≡ n = cc (c .1) in
+    (c .1, sym (ap axesIn z) ∙ c .0)
 
-axes-read : (t : List ℕ) (v : Items) → fieldValue AxesNumber t ≡ some v → (decimal (v .a) ≡ t) × (v ≡ oneItem (v .a)) × OneTwo (v .a)
+axes-read : (t : List ℕ) (v : Items) → fieldValue AxesNumber t ≡ some v → (decimal (v .a) ≡ t) × (v ≡ oneItem (v .a)) × (axesIn (v .a) ≡ true)
 unfolding fieldValue
 axes-read t v e =
-    let s = some-last (oneOrTwo (number t)) v e in
-    let o = one-two (number t) (s .0) (s .1) in
+    let s = some-last (axesNumber (number t)) v e in
+    let o = some-axes (number t) (s .0) (s .1) in
     rw (s .2) (decimal-number t (s .0) (o .0) .0, refl, o .1)
 
-pub axes-readable : (n : ℕ) → OneTwo n → fieldValue AxesNumber (showField AxesNumber (oneItem n)) ≡ some (oneItem n)
-unfolding OneTwo fieldValue showField oneOrTwo lastNumber
-axes-readable n (inl e) = rw (number-decimal n (omega arith), e)
-axes-readable n (inr e) = rw (number-decimal n (omega arith), e)
+pub axes-readable : (n : ℕ) → axesIn n ≡ true → fieldValue AxesNumber (showField AxesNumber (oneItem n)) ≡ some (oneItem n)
+unfolding fieldValue showField axesNumber lastNumber
+axes-readable n h = rw (number-decimal n (omega (arith, within-both 1 3 n h)), h)
 
-pub axes-back : (v : Items) → fieldValue AxesNumber (showField AxesNumber v) ≡ some v → (v ≡ oneItem (v .a)) × OneTwo (v .a)
+pub axes-back : (v : Items) → fieldValue AxesNumber (showField AxesNumber v) ≡ some v → (v ≡ oneItem (v .a)) × (axesIn (v .a) ≡ true)
 axes-back v e = let r = axes-read (showField AxesNumber v) v e in (r .1, r .2)
 
 -- ---- the axis
@@ -76,10 +74,6 @@ axis-readable (pos n) h =
     rw (decimal-small n (omega arith), le-leb 48 (48 + n) (omega arith), le-leb (48 + n) 57 (omega arith), add-sub-cancel-left 48 n)
 axis-readable (negsuc n) h =
     rw (decimal-small (suc n) (omega arith), le-leb 49 (48 + suc n) (omega arith), le-leb (48 + suc n) 57 (omega arith), add-sub-cancel-left 48 (suc n))
-
-cond-some : {A : Type 0} (b : Bool) {x : Option A} {v : A} → cond b x none ≡ some v → (b ≡ true) × (x ≡ some v)
-cond-some true e = (refl, e)
-cond-some false e = absurd (false≢true cc)
 
 digit-read : (low minus b : ℕ) (v : Items) → digitFrom low minus b ≡ some v → (low ≤ b) × (b ≤ 57) × (v ≡ signed (b - 48) minus)
 digit-read low minus b v e =

@@ -9,6 +9,7 @@ use Rattle.text.specs.Texts.{text}
 use Rattle.text.specs.Numbers.{number, decimal}
 use Rattle.text.specs.Lists.{numbers, showNumbers, lastNumber}
 use Rattle.text.specs.declared.Items.{Items}
+use Rattle.layer.specs.Axes.{axesIn}
 use Rattle.values.specs.Words.{wordAt, wordPlace}
 use Rattle.values.specs.declared.Field.{Field}
 use Rattle.values.specs.declared.Field.the-variants.{OpWord, AxesNumber, NumberList, AutoPadWord, RoundingWord, AxisDigit}
@@ -42,10 +43,10 @@ wordCount AutoPadWord = 4
 wordCount RoundingWord = 2
 wordCount AxisDigit = 0
 
--- "axes other than 1 and 2 included": the number of axes is 1 or 2
-unfoldable pub oneOrTwo : Option ℕ → Option ℕ
-oneOrTwo none = none
-oneOrTwo (some n) = cond (eqb n 1) (some n) (cond (eqb n 2) (some n) none)
+-- "axes other than 1, 2 and 3 included"
+unfoldable pub axesNumber : Option ℕ → Option ℕ
+axesNumber none = none
+axesNumber (some n) = cond (axesIn n) (some n) none
 
 -- "axis is -9..9 in one digit, never -0": a digit, 48 to 57, or a minus, 45, and a digit from 49 on
 abbrev pub signed : ℕ → ℕ → Items
@@ -68,7 +69,7 @@ showAxis items = cond (eqb (items .b) 0) (decimal (items .a)) (45 ∷ decimal (i
 -- what a text spells
 unfoldable pub fieldValue : Field → List ℕ → Option Items
 fieldValue OpWord t = lastNumber (wordPlace (wordCount OpWord) (words OpWord) t)
-fieldValue AxesNumber t = lastNumber (oneOrTwo (number t))
+fieldValue AxesNumber t = lastNumber (axesNumber (number t))
 fieldValue (NumberList count) t = numbers count t
 fieldValue AutoPadWord t = lastNumber (wordPlace (wordCount AutoPadWord) (words AutoPadWord) t)
 fieldValue RoundingWord t = lastNumber (wordPlace (wordCount RoundingWord) (words RoundingWord) t)
@@ -92,6 +93,6 @@ unread AutoPadWord = 22
 unread RoundingWord = 22
 unread AxisDigit = 21
 
--- the default of a line that only some operators use: "output padding 0", "rounding floor", which is the first word, "axis 0"
+-- the default of a line that only some operators use: "output padding 0" on every axis, "rounding floor", which is the first word, "axis 0"
 abbrev pub isDefaultValue : Items → Bool
-isDefaultValue items = eqb (items .a) 0 && eqb (items .b) 0
+isDefaultValue items = eqb (items .a) 0 && eqb (items .b) 0 && eqb (items .c) 0

@@ -2,6 +2,7 @@
 use layer::AutoPad;
 use layer::Op;
 use layer::Rounding;
+use layer::axes_in;
 use print::put_byte;
 use print::put_number;
 use print::put_numbers;
@@ -21,7 +22,7 @@ ghost use Rattle.text.specs.Lists.{numbersRead, lastNumber};
 ghost use Rattle.text.specs.Numbers.{number};
 ghost use Rattle.print.specs.Put.{Put};
 ghost use Rattle.values.specs.Words.{laterWords, wordAt, wordPlace};
-ghost use Rattle.values.specs.Values.{words, wordCount, oneOrTwo, signed, digitFrom, axisNumber, showAxis, fieldValue, showField, unread, isDefaultValue};
+ghost use Rattle.values.specs.Values.{words, wordCount, axesNumber, signed, digitFrom, axisNumber, showAxis, fieldValue, showField, unread, isDefaultValue};
 ghost use Rattle.values.specs.Kinds.{opOf, opItems, autoPadOf, autoPadItems, roundingOf, roundingItems, axisOf, axisItems};
 
 // What a line's value is: a word of a table, the number of axes, a list of so many numbers, or an axis.
@@ -123,15 +124,12 @@ fn put_word(buf: &mut [u8], at: usize, field: Field, place: u32) -> usize
 // ---- reading
 
 fn axes_number(t: &[u8]) -> Numbers
-    ensures { λ r. ⌜ numbersRead r ≡ lastNumber (oneOrTwo (number (now (t .entry)))) ⌝ }
+    ensures { λ r. ⌜ numbersRead r ≡ lastNumber (axesNumber (number (now (t .entry)))) ⌝ }
 {
     let Number::Value(n) = read_number(t) else {
         return Numbers::NoNumbers;
     };
-    if n == 1 {
-        return Numbers::These(one_item(n));
-    }
-    if n == 2 {
+    if axes_in(n) {
         return Numbers::These(one_item(n));
     }
     Numbers::NoNumbers
@@ -198,7 +196,7 @@ pub fn unread_number(field: Field) -> u32
 pub fn is_default_value(items: Items) -> bool
     ensures { λ r. ⌜ r ≡ isDefaultValue items ⌝ }
 {
-    (items.a == 0) & (items.b == 0)
+    (items.a == 0) & (items.b == 0) & (items.c == 0)
 }
 
 // ---- writing

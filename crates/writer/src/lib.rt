@@ -1,10 +1,10 @@
 // The writer of a layer's sheet into a lent buffer. Line numbers are counted from `first`, that of the line `op=`.
 use faults::Fault;
 use faults::fault_of;
+use fields::axis_list;
 use fields::input_list;
 use fields::kernel_list;
 use fields::kernel_numbers;
-use fields::pair_list;
 use layer::Layer;
 use layer::Op;
 use lines::put_line;
@@ -20,7 +20,7 @@ ghost use Rattle.text.specs.Lines.{showLine};
 ghost use Rattle.print.specs.Put.{Put};
 ghost use Rattle.values.specs.Values.{showField};
 ghost use Rattle.lines.specs.Form.{layer, showForm};
-ghost use Rattle.fields.specs.Layers.{pairList};
+ghost use Rattle.fields.specs.Layers.{axisList};
 ghost use Rattle.fields.specs.Sheet.{firstLines, sizeLines, padLines, lastLines, sheetValues, showSheet};
 ghost use Rattle.faults.specs.Faults.{faultOf};
 ghost use Rattle.writer.specs.Writer.{notWritten, writeLines, linesAfter};
@@ -35,11 +35,11 @@ pub struct Written {
 // ---- the lines
 
 // A list with one number for each axis.
-fn put_pair(buf: &mut [u8], at: usize, key: &[u8], axes: u32, y: u32, x: u32) -> usize
-    ensures { λ r. ⌜ Put (now (buf .entry)) at (showLine (now (key .entry)) (showField (Field.NumberList axes) (pairList axes y x))) r (now (buf .exit)) ⌝ }
+fn put_axes(buf: &mut [u8], at: usize, key: &[u8], axes: u32, z: u32, y: u32, x: u32) -> usize
+    ensures { λ r. ⌜ Put (now (buf .entry)) at (showLine (now (key .entry)) (showField (Field.NumberList axes) (axisList axes z y x))) r (now (buf .exit)) ⌝ }
 {
     let list = Field::NumberList(axes as usize);
-    put_line(buf, at, key, list, pair_list(axes, y, x))
+    put_line(buf, at, key, list, axis_list(axes, z, y, x))
 }
 
 // The lines op, axes and input.
@@ -48,9 +48,10 @@ fn put_first(buf: &mut [u8], at: usize, l: Layer) -> usize
 {
     let op = l.op;
     let axes = l.axes;
+    let z = l.z;
     let y = l.y;
     let x = l.x;
-    let input = input_list(axes, l.n, l.c, y.input, x.input);
+    let input = input_list(axes, l.n, l.c, z.input, y.input, x.input);
     let list = Field::NumberList(axes as usize + 2);
     let at1 = put_line(buf, at, b"op=", Field::OpWord, op_items(op));
     let at2 = put_line(buf, at1, b"axes=", Field::AxesNumber, one_item(axes));
@@ -63,13 +64,22 @@ fn put_sizes(buf: &mut [u8], at: usize, l: Layer) -> usize
 {
     let op = l.op;
     let axes = l.axes;
+    let z = l.z;
     let y = l.y;
     let x = l.x;
-    let kernel = kernel_list(op, axes, l.g, l.o, l.i, y.kernel, x.kernel);
+    let kernel = kernel_list(op, axes, l.g, l.o, l.i, z.kernel, y.kernel, x.kernel);
     let list = Field::NumberList(kernel_numbers(op, axes));
     let at4 = put_line(buf, at, b"kernel=", list, kernel);
-    let at5 = put_pair(buf, at4, b"strides=", axes, y.stride, x.stride);
-    put_pair(buf, at5, b"dilations=", axes, y.dilation, x.dilation)
+    let at5 = put_axes(buf, at4, b"strides=", axes, z.stride, y.stride, x.stride);
+    put_axes(
+        buf,
+        at5,
+        b"dilations=",
+        axes,
+        z.dilation,
+        y.dilation,
+        x.dilation,
+    )
 }
 
 // The lines auto_pad, pads_begin and pads_end.
@@ -77,25 +87,43 @@ fn put_pads(buf: &mut [u8], at: usize, l: Layer) -> usize
     ensures { λ r. ⌜ Put (now (buf .entry)) at (showForm (padLines (l .axes) λ mode begin end. layer l) (drop 6 (sheetValues l))) r (now (buf .exit)) ⌝ }
 {
     let axes = l.axes;
+    let z = l.z;
     let y = l.y;
     let x = l.x;
     let mode = l.auto_pad;
     let word = auto_pad_items(mode);
     let at7 = put_line(buf, at, b"auto_pad=", Field::AutoPadWord, word);
-    let at8 = put_pair(buf, at7, b"pads_begin=", axes, y.pad_begin, x.pad_begin);
-    put_pair(buf, at8, b"pads_end=", axes, y.pad_end, x.pad_end)
+    let at8 = put_axes(
+        buf,
+        at7,
+        b"pads_begin=",
+        axes,
+        z.pad_begin,
+        y.pad_begin,
+        x.pad_begin,
+    );
+    put_axes(
+        buf,
+        at8,
+        b"pads_end=",
+        axes,
+        z.pad_end,
+        y.pad_end,
+        x.pad_end,
+    )
 }
 
 // The lines output_padding, rounding and axis.
 fn put_last(buf: &mut [u8], at: usize, l: Layer) -> usize
     ensures { λ r. ⌜ Put (now (buf .entry)) at (showForm (lastLines (l .op) (l .axes) λ padding rounding axis. layer l) (drop 9 (sheetValues l))) r (now (buf .exit)) ⌝ }
 {
+    let z = l.z.output_padding;
     let y = l.y.output_padding;
     let x = l.x.output_padding;
     let rounding = l.rounding;
     let axis = l.axis;
     let word = rounding_items(rounding);
-    let at10 = put_pair(buf, at, b"output_padding=", l.axes, y, x);
+    let at10 = put_axes(buf, at, b"output_padding=", l.axes, z, y, x);
     let at11 = put_line(buf, at10, b"rounding=", Field::RoundingWord, word);
     put_line(buf, at11, b"axis=", Field::AxisDigit, axis_items(axis))
 }

@@ -23,7 +23,7 @@ impl Layer {
 
     /// Prints where the first plane of the layer's output has its largest element.
     fn peak(&self, name: &str, output: &[f32]) -> Peak {
-        let plane = kozamyure::plane(output, self.shape.sizes(), 0, 0);
+        let plane = kozamyure::plane(output, self.shape.sizes(), 0, 0, 0);
         let peak = done(name, kozamyure::peak(plane, self.shape.x as usize));
         println!("{name}: peak {} at row {}, column {}", peak.value, peak.row, peak.column);
         peak

@@ -9,10 +9,10 @@ struct axis {
     int size, kernel, stride, dilation, begin, out;
 };
 
-// One group of one image: input and output channels.
+// One group of one image: input and output channels, and Z, Y and X.
 struct call {
-    int op, channels, outs;
-    struct axis y, x;
+    int op, axes, channels, outs;
+    struct axis z, y, x;
 };
 
 #define EACH(v, n) for (int v = 0; v < (n); v++)
@@ -30,10 +30,20 @@ INLINE int source(const struct axis *a, int p, int k) {
     return t >= 0 && t % a->stride == 0 && t / a->stride < a->size ? t / a->stride : -1;
 }
 
-// Kernel row ky from input channel i to output channel o.
-INLINE const float *kernel_row(const struct call *c, const float *kernel, int o, int i, int ky, int transposed) {
-    int plane = transposed ? i * c->outs + o : o * c->channels + i;
-    return kernel + (plane * c->y.kernel + ky) * c->x.kernel;
+// The Z axis. With two axes it is a constant, so that a compiler leaves its loops out.
+INLINE struct axis depths(const struct call *c, int three) {
+    return three ? c->z : (struct axis){1, 1, 1, 1, 0, 1};
+}
+
+// Kernel row kz, ky from input channel i to output channel o.
+INLINE const float *kernel_row(const struct call *c, const struct axis *z, const float *kernel, int o, int i, int kz, int ky, int transposed) {
+    int channels = transposed ? i * c->outs + o : o * c->channels + i;
+    return kernel + ((channels * z->kernel + kz) * c->y.kernel + ky) * c->x.kernel;
+}
+
+// Where row r at depth d of an input channel begins.
+INLINE int input_row(const struct call *c, const struct axis *z, int channel, int d, int r) {
+    return ((channel * z->size + d) * c->y.size + r) * c->x.size;
 }
 
 #ifdef ROWS
@@ -62,49 +72,54 @@ INLINE void add_tap(const struct axis *a, float *out, const float *in, float wei
         add_products(out + lo, in + far, weight, hi - lo, 1, a->stride);
 }
 
-INLINE void convolve(const struct call *c, const float *input, const float *kernel, float *output, int transposed) {
-    EACH(o, c->outs) EACH(p, c->y.out) {
-        float *out = output + (o * c->y.out + p) * c->x.out;
+INLINE void convolve(const struct call *c, const float *input, const float *kernel, float *output, int transposed, int three) {
+    const struct axis z = depths(c, three);
+    EACH(o, c->outs) EACH(n, z.out) EACH(p, c->y.out) {
+        float *out = output + ((o * z.out + n) * c->y.out + p) * c->x.out;
         EACH(q, c->x.out) out[q] = 0;
-        EACH(i, c->channels) EACH(ky, c->y.kernel) {
+        EACH(i, c->channels) EACH(kz, z.kernel) EACH(ky, c->y.kernel) {
+            int d = transposed ? source(&z, n, kz) : tap(&z, n, kz);
             int r = transposed ? source(&c->y, p, ky) : tap(&c->y, p, ky);
-            if (r < 0) continue;
-            const float *weights = kernel_row(c, kernel, o, i, ky, transposed);
-            EACH(kx, c->x.kernel) add_tap(&c->x, out, input + (i * c->y.size + r) * c->x.size, weights[kx], kx, transposed);
+            if (d < 0 || r < 0) continue;
+            const float *weights = kernel_row(c, &z, kernel, o, i, kz, ky, transposed);
+            EACH(kx, c->x.kernel) add_tap(&c->x, out, input + input_row(c, &z, i, d, r), weights[kx], kx, transposed);
         }
     }
 }
 
 #else
 
-INLINE void convolve(const struct call *c, const float *input, const float *kernel, float *output, int transposed) {
-    EACH(o, c->outs) EACH(p, c->y.out) EACH(q, c->x.out) {
+INLINE void convolve(const struct call *c, const float *input, const float *kernel, float *output, int transposed, int three) {
+    const struct axis z = depths(c, three);
+    EACH(o, c->outs) EACH(n, z.out) EACH(p, c->y.out) EACH(q, c->x.out) {
         float sum = 0;
-        EACH(i, c->channels) EACH(ky, c->y.kernel) {
+        EACH(i, c->channels) EACH(kz, z.kernel) EACH(ky, c->y.kernel) {
+            int d = transposed ? source(&z, n, kz) : tap(&z, n, kz);
             int r = transposed ? source(&c->y, p, ky) : tap(&c->y, p, ky);
-            if (transposed && r < 0) continue;
-            const float *weights = kernel_row(c, kernel, o, i, ky, transposed);
+            if (transposed && (d < 0 || r < 0)) continue;
+            const float *weights = kernel_row(c, &z, kernel, o, i, kz, ky, transposed);
             EACH(kx, c->x.kernel) {
                 int s = transposed ? source(&c->x, q, kx) : tap(&c->x, q, kx);
                 if (transposed && s < 0) continue;
-                sum += (r < 0 || s < 0 ? 0 : input[(i * c->y.size + r) * c->x.size + s]) * weights[kx];
+                sum += (d < 0 || r < 0 || s < 0 ? 0 : input[input_row(c, &z, i, d, r) + s]) * weights[kx];
             }
         }
-        output[(o * c->y.out + p) * c->x.out + q] = sum;
+        output[((o * z.out + n) * c->y.out + p) * c->x.out + q] = sum;
     }
 }
 
 #endif
 
-static void max_pool(const struct call *restrict c, const float *input, float *values, int64_t *restrict indices) {
-    EACH(channel, c->channels) EACH(p, c->y.out) EACH(q, c->x.out) {
+INLINE void max_pool(const struct call *restrict c, const float *input, float *values, int64_t *restrict indices, int three) {
+    const struct axis z = depths(c, three);
+    EACH(channel, c->channels) EACH(n, z.out) EACH(p, c->y.out) EACH(q, c->x.out) {
         float best = 0;
         int at = -1;
-        EACH(ky, c->y.kernel) {
-            int r = tap(&c->y, p, ky);
-            if (r < 0) continue;
+        EACH(kz, z.kernel) EACH(ky, c->y.kernel) {
+            int d = tap(&z, n, kz), r = tap(&c->y, p, ky);
+            if (d < 0 || r < 0) continue;
             EACH(kx, c->x.kernel) {
-                int s = tap(&c->x, q, kx), place = (channel * c->y.size + r) * c->x.size + s;
+                int s = tap(&c->x, q, kx), place = input_row(c, &z, channel, d, r) + s;
                 if (s >= 0 && (at < 0 || best < input[place])) best = input[at = place];
             }
         }
@@ -113,11 +128,18 @@ static void max_pool(const struct call *restrict c, const float *input, float *v
     }
 }
 
-void RUN(const struct call *c, const float *input, const float *kernel, float *output, int64_t *indices) {
+INLINE void run(const struct call *c, const float *input, const float *kernel, float *output, int64_t *indices, int three) {
     if (c->op == CONVOLUTION)
-        convolve(c, input, kernel, output, 0);
+        convolve(c, input, kernel, output, 0, three);
     else if (c->op == TRANSPOSED)
-        convolve(c, input, kernel, output, 1);
+        convolve(c, input, kernel, output, 1, three);
     else
-        max_pool(c, input, output, indices);
+        max_pool(c, input, output, indices, three);
+}
+
+void RUN(const struct call *c, const float *input, const float *kernel, float *output, int64_t *indices) {
+    if (c->axes == 3)
+        run(c, input, kernel, output, indices, 1);
+    else
+        run(c, input, kernel, output, indices, 0);
 }

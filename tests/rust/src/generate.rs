@@ -1,5 +1,6 @@
-//! A fixed stream of calls: layers that are mostly valid, each number's faults often, damaged sheets, wrong lengths, and elements at every edge.
-use crate::reference::{show_sheet, AutoPad, Axis, Layer, Op, UNUSED};
+//! A fixed stream of calls: layers of one to three axes that are mostly valid, each number's faults often, damaged sheets, wrong lengths, and elements at
+//! every edge.
+use crate::reference::{show_sheet, AutoPad, Axis, Layer, Op, UNUSED, X};
 
 /// A small generator of its own (xorshift), so that a seed gives the same calls everywhere.
 pub struct Random(u64);
@@ -30,11 +31,11 @@ impl Random {
     }
 }
 
-fn axis(r: &mut Random, op: Op, largest: u64) -> Axis {
+fn axis(r: &mut Random, op: Op, size: u64, kernel: u64) -> Axis {
     let wide = r.chance(40);
     Axis {
-        size: r.range(1, largest),
-        kernel: r.range(1, 4),
+        size: r.range(1, size),
+        kernel: r.range(1, kernel),
         stride: if wide { r.range(1, 16) } else { r.range(1, 3) },
         dilation: if wide { r.range(1, 16) } else { r.range(1, 3) },
         begin: r.range(0, 3),
@@ -65,10 +66,30 @@ fn row(r: &mut Random, op: Op, auto_pad: AutoPad) -> Axis {
     Axis { size: columns - pads, kernel, stride, dilation, begin, end, extra: 0 }
 }
 
+/// Z, Y and X, the last `axes` of them drawn. The more axes there are the smaller they are, so that a call stays quick.
+fn spatial(r: &mut Random, op: Op, auto_pad: AutoPad, axes: u64) -> [Axis; 3] {
+    let by_row = op != Op::MaxPool && r.chance(2);
+    let (size, kernel) = match (axes, by_row) {
+        (1, _) => (24, 4),
+        (2, false) => (7, 4),
+        (2, true) => (5, 4),
+        (_, false) => (5, 3),
+        (_, true) => (3, 2),
+    };
+    let mut spatial = [UNUSED; 3];
+    for a in spatial.iter_mut().rev().take(axes as usize) {
+        *a = axis(r, op, size, kernel);
+    }
+    if by_row {
+        spatial[X] = row(r, op, auto_pad);
+    }
+    spatial
+}
+
 /// A layer that is valid more often than not, small enough to be computed.
 pub fn layer(r: &mut Random) -> Layer {
     let op = r.pick(&[Op::Convolution, Op::Transposed, Op::MaxPool]);
-    let axes = r.range(1, 2);
+    let axes = r.range(1, 3);
     let (g, o, i) = if op == Op::MaxPool { (1, 1, 1) } else { (r.range(1, 3), r.range(1, 3), r.range(1, 3)) };
     let auto_pad = if op == Op::Transposed {
         r.pick(&[AutoPad::Explicit, AutoPad::Explicit, AutoPad::Valid])
@@ -76,7 +97,6 @@ pub fn layer(r: &mut Random) -> Layer {
         r.pick(&[AutoPad::Explicit, AutoPad::SameUpper, AutoPad::SameLower, AutoPad::Valid])
     };
     let rank = axes as i64 + 2;
-    let by_row = op != Op::MaxPool && r.chance(2);
     Layer {
         op,
         axes,
@@ -85,20 +105,56 @@ pub fn layer(r: &mut Random) -> Layer {
         g,
         o,
         i,
-        y: if axes == 2 { axis(r, op, if by_row { 5 } else { 7 }) } else { UNUSED },
-        x: if by_row { row(r, op, auto_pad) } else { axis(r, op, if axes == 2 { 7 } else { 24 }) },
+        spatial: spatial(r, op, auto_pad, axes),
         auto_pad,
         ceil: op == Op::MaxPool && r.chance(2),
         axis: if op == Op::MaxPool { r.range(0, 2 * rank as u64 - 1) as i64 - rank } else { 0 },
     }
 }
 
-/// One field set to an edge: 0, its limit, one above, the largest u32, or something near.
+/// As many taps as are taken, or too many: number 4 for a convolution.
+fn many_taps(r: &mut Random, l: &mut Layer) {
+    let kernel = [64, 64, 16][l.axes as usize - 1];
+    l.used_mut().iter_mut().for_each(|a| a.kernel = kernel);
+    if l.op != Op::MaxPool {
+        l.i = r.pick(&[1, 2, 65, 65]);
+        l.c = l.g * l.i;
+    }
+}
+
+/// Too many elements in the input, but for a convolution of one axis: number 4.
+fn many_inputs(l: &mut Layer) {
+    l.n = 16;
+    l.used_mut().iter_mut().for_each(|a| a.size = 4096);
+    if l.op == Op::MaxPool {
+        l.c = 1024;
+    }
+}
+
+/// Outputs above the limit: number 6.
+fn many_outputs(l: &mut Layer) {
+    let pads = if l.op == Op::Transposed { 0 } else { 1024 };
+    for (a, size) in l.used_mut().iter_mut().rev().zip([4096, 900, 1]) {
+        *a = Axis { size, stride: 1, begin: pads, end: pads, ..*a };
+    }
+    l.auto_pad = AutoPad::Explicit;
+    let (n, c) = if l.axes == 1 { (16, 250) } else { (1, 3) };
+    l.n = n;
+    if l.op == Op::MaxPool {
+        l.c = c;
+    } else {
+        (l.c, l.g, l.o, l.i) = (1, 1, 1024, 1);
+    }
+    if l.op == Op::Transposed {
+        l.spatial[X].stride = 16;
+    }
+}
+
+/// One field set to an edge (0, its limit, one above, the largest u32, or something near), or a few set for one number.
 pub fn spoil(r: &mut Random, l: &mut Layer) {
     let edge = r.pick(&[0, 1, 2, 15, 16, 17, 63, 64, 65, 1023, 1024, 1025, 4095, 4096, 4097, u64::from(u32::MAX)]);
     let field = r.range(0, 21);
-    let two = l.axes == 2;
-    let a = if two && r.chance(2) { &mut l.y } else { &mut l.x };
+    let a = &mut l.spatial[r.range(3 - l.axes, 2) as usize];
     match field {
         0 => l.n = edge,
         1 => l.c = edge,
@@ -114,129 +170,104 @@ pub fn spoil(r: &mut Random, l: &mut Layer) {
         12 if l.op != Op::MaxPool => l.i = edge,
         13 => l.axis = if l.op == Op::MaxPool { r.range(0, 18) as i64 - 9 } else { 0 },
         14 if l.op == Op::Transposed => l.auto_pad = r.pick(&[AutoPad::SameUpper, AutoPad::SameLower]),
-        // Too many taps, or elements in input or kernel: number 4.
-        15 => {
-            a.kernel = 64;
-            if l.op != Op::MaxPool {
-                l.i = 65;
-                l.c = l.g * 65;
-            }
-        }
-        16 => {
-            l.n = 16;
-            l.x.size = 4096;
-            if two {
-                l.y.size = 4096;
-            }
-            if l.op == Op::MaxPool {
-                l.c = 1024;
-            }
-        }
-        // Outputs above the limit: number 6.
-        17 | 18 => {
-            l.auto_pad = AutoPad::Explicit;
-            l.x.begin = 1024;
-            l.x.end = 1024;
-            l.x.stride = 1;
-            l.x.size = 4096;
-            if two {
-                l.y.begin = 1024;
-                l.y.end = 1024;
-                l.y.stride = 1;
-                l.y.size = 900;
-                l.n = 1;
-            } else {
-                l.n = 16;
-            }
-            if l.op == Op::MaxPool {
-                l.c = if two { 3 } else { 250 };
-            } else {
-                l.g = 1;
-                l.i = 1;
-                l.c = 1;
-                l.o = 1024;
-            }
-            if l.op == Op::Transposed {
-                l.x.begin = 0;
-                l.x.end = 0;
-                l.x.stride = 16;
-                l.y.begin = 0;
-                l.y.end = 0;
-            }
-        }
+        15 => many_taps(r, l),
+        16 => many_inputs(l),
+        17 | 18 => many_outputs(l),
         // Windows that miss the input: number 7.
-        19 | 20 => {
-            if l.op == Op::MaxPool {
-                l.ceil = true;
-                a.stride = r.range(2, 9);
-                a.dilation = r.range(1, 16);
-                a.kernel = r.range(1, 3);
-            }
+        19 | 20 if l.op == Op::MaxPool => {
+            l.ceil = true;
+            *a = Axis { kernel: r.range(1, 3), stride: r.range(2, 9), dilation: r.range(1, 16), ..*a };
         }
         _ => l.auto_pad = r.pick(&[AutoPad::Explicit, AutoPad::Valid]),
     }
 }
 
-/// A sheet of the layer, at times damaged: a line, a byte, the end, or the order.
+/// Lines that take the place of those with their keys: wrong words and numbers, and lists that have the right length with some numbers of axes alone.
+const LINES: [&str; 37] = [
+    "op=pool",
+    "auto_pad=same",
+    "auto_pad=SAME_UPPER",
+    "rounding=ceil",
+    "rounding=round",
+    "axis=-0",
+    "axis=10",
+    "axis=1",
+    "axis=-9",
+    "axis=",
+    "axes=0",
+    "axes=1",
+    "axes=2",
+    "axes=3",
+    "axes=4",
+    "axes=02",
+    "axes=03",
+    "strides=1",
+    "strides=1,1,1",
+    "strides=1,1,1,1",
+    "strides=01,1",
+    "strides=1,1,01",
+    "strides=4294967296,1",
+    "strides=1,4294967296,1",
+    "strides=1,,1",
+    "dilations=1,1",
+    "output_padding=1",
+    "output_padding=1,0",
+    "output_padding=1,0,0",
+    "output_padding=0,0",
+    "output_padding=0,0,0",
+    "kernel=1,1",
+    "kernel=1,1,1,1,1",
+    "kernel=1,1,1,1,1,1",
+    "input=1,1,4,4",
+    "input=1,1,4,4,4",
+    "input=-1,1,4,4",
+];
+
+/// A list with one number more, or one less.
+fn recount(r: &mut Random, lines: &mut [String]) {
+    let line = &mut lines[r.pick(&[2, 3, 4, 5, 7, 8, 9])];
+    match line.rfind(',') {
+        Some(last) if r.chance(2) => line.truncate(last),
+        _ => line.push_str(",1"),
+    }
+}
+
+/// A line damaged, and seldom two in each other's place.
+fn edit_lines(r: &mut Random, text: &str) -> String {
+    let mut lines: Vec<String> = text.lines().map(str::to_string).collect();
+    if r.chance(4) {
+        recount(r, &mut lines);
+    } else {
+        let by = r.pick(&LINES);
+        let key = by.split_inclusive('=').next().expect("a line has a key");
+        for line in lines.iter_mut().filter(|line| line.starts_with(key)) {
+            *line = by.to_string();
+        }
+    }
+    if r.chance(6) {
+        let (a, b) = (r.range(0, 11) as usize, r.range(0, 11) as usize);
+        lines.swap(a, b);
+    }
+    lines.into_iter().map(|line| line + "\n").collect()
+}
+
+/// A sheet of the layer, at times damaged: a byte, the end, a line, or the order.
 pub fn sheet(r: &mut Random, l: &Layer) -> Vec<u8> {
-    let mut text = show_sheet(l).into_bytes();
+    let shown = show_sheet(l);
+    let mut text = shown.clone().into_bytes();
     if !r.chance(6) {
         return text;
     }
+    let at = r.range(0, text.len() as u64 - 1) as usize;
     match r.range(0, 9) {
-        0 => {
-            let at = r.range(0, text.len() as u64 - 1) as usize;
-            text[at] = r.pick(&[b'0', b'9', b',', b'=', b'\n', b'-', b' ', b'x', 0, 255]);
-        }
+        0 => text[at] = r.pick(&[b'0', b'9', b',', b'=', b'\n', b'-', b' ', b'x', 0, 255]),
         1 => {
-            let at = r.range(0, text.len() as u64 - 1) as usize;
             text.remove(at);
         }
-        2 => {
-            let at = r.range(0, text.len() as u64) as usize;
-            text.insert(at, r.pick(b"01,\n \r"));
-        }
-        3 => text.truncate(r.range(0, text.len() as u64 - 1) as usize),
+        2 => text.insert(at, r.pick(b"01,\n \r")),
+        3 => text.truncate(at),
         4 => text.extend_from_slice(r.pick(&[&b"\n"[..], b"x", b"axis=0\n", b" "])),
-        _ => {
-            let string = String::from_utf8(text).expect("a sheet is text");
-            let mut lines: Vec<String> = string.lines().map(str::to_string).collect();
-            let (from, to) = r.pick(&[
-                ("op=", "op=pool"),
-                ("auto_pad=", "auto_pad=same"),
-                ("auto_pad=", "auto_pad=SAME_UPPER"),
-                ("rounding=", "rounding=ceil"),
-                ("rounding=", "rounding=round"),
-                ("axis=", "axis=-0"),
-                ("axis=", "axis=10"),
-                ("axis=", "axis=1"),
-                ("axis=", "axis=-9"),
-                ("axis=", "axis="),
-                ("axes=", "axes=3"),
-                ("axes=", "axes=02"),
-                ("axes=", "axes=1"),
-                ("strides=", "strides=1,1,1"),
-                ("strides=", "strides=01,1"),
-                ("strides=", "strides=4294967296,1"),
-                ("strides=", "strides=1,,1"),
-                ("dilations=", "dilations=1,1"),
-                ("output_padding=", "output_padding=1,0"),
-                ("output_padding=", "output_padding=1"),
-                ("output_padding=", "output_padding=0,0"),
-                ("kernel=", "kernel=1,1"),
-                ("kernel=", "kernel=1,1,1,1,1"),
-                ("input=", "input=1,1,4,4"),
-                ("input=", "input=-1,1,4,4"),
-            ]);
-            for line in lines.iter_mut().filter(|s| s.starts_with(from)) {
-                *line = to.to_string();
-            }
-            if r.chance(6) {
-                let (a, b) = (r.range(0, 11) as usize, r.range(0, 11) as usize);
-                lines.swap(a, b);
-            }
-            text = lines.into_iter().map(|s| s + "\n").collect::<String>().into_bytes();
-        }
+        _ => text = edit_lines(r, &shown).into_bytes(),
     }
     text
 }
@@ -317,21 +348,20 @@ pub fn tensor(r: &mut Random, kind: Kind, len: usize) -> Vec<f32> {
     t
 }
 
-/// Layers with an input or a kernel of 16,777,216 elements and few products, or the same transposed, or pooled.
+/// Layers with an input or a kernel of 16,777,216 elements and few products, or the same transposed, or pooled; two or three axes.
 pub fn largest() -> [Layer; 5] {
     let along = |size, kernel, stride| Axis { size, kernel, stride, ..UNUSED };
-    let layer = |op, n, g, o, i, a: Axis| Layer {
-        op, axes: 2, n, c: g * i, g, o, i, y: a, x: a, auto_pad: AutoPad::Explicit, ceil: false, axis: 0,
-    };
-    // The transposed output of 64 by 64 keeps its first element alone.
-    let cut = Axis { end: 63, ..along(1, 64, 1) };
-    let pooled = Layer { c: 1024, ..layer(Op::MaxPool, 16, 1, 1, 1, along(32, 32, 1)) };
+    let two = |a: Axis| (2, [UNUSED, a, a]);
+    let layer = |op, [n, g, o, i]: [u64; 4], (axes, spatial)| Layer { n, c: g * i, g, o, i, spatial, ..Layer::new(op, axes) };
+    // The transposed output of 16 by 16 by 16 keeps its first element alone.
+    let cut = Axis { end: 15, ..along(1, 16, 1) };
+    let pooled = (3, [along(4, 4, 1), along(16, 16, 1), along(16, 16, 1)]);
     [
-        layer(Op::Convolution, 16, 1, 1, 1024, along(32, 2, 16)),
-        layer(Op::Convolution, 1, 4, 1024, 1, along(64, 64, 1)),
-        layer(Op::Transposed, 16, 1, 1, 1024, along(32, 1, 1)),
-        layer(Op::Transposed, 1, 4, 1024, 1, cut),
-        pooled,
+        layer(Op::Convolution, [16, 1, 1, 1024], two(along(32, 2, 16))),
+        layer(Op::Convolution, [1, 4, 1024, 1], two(along(64, 64, 1))),
+        layer(Op::Transposed, [16, 1, 1, 1024], two(along(32, 1, 1))),
+        layer(Op::Transposed, [1, 4, 1024, 1], (3, [cut; 3])),
+        Layer { c: 1024, ..layer(Op::MaxPool, [16, 1, 1, 1], pooled) },
     ]
 }
 
@@ -344,33 +374,39 @@ pub fn length(r: &mut Random, len: u64) -> usize {
     r.pick(&[len + 1, len.saturating_sub(1), 0, 2 * len])
 }
 
-/// What the plane picker is given: the tensor's length, its four sizes, an image and a channel.
+/// What the plane picker is given: the tensor's length, its five sizes, an image, a channel and a depth.
 #[derive(Clone, Copy, Debug)]
 pub struct Pick {
     pub len: usize,
-    pub sizes: [u32; 4],
+    pub sizes: [u32; 5],
     pub image: u32,
     pub channel: u32,
+    pub depth: u32,
 }
 
-/// The longest tensor that a plane is picked from: two sizes at their limits, and one element too many.
-const LONGEST: u128 = 16_777_217;
+/// The longest tensor that a plane is picked from: twice as many elements as an operator takes, and one too many.
+const LONGEST: u128 = 33_554_433;
 
-/// N, C, Y and X: small, or two of them at their limits, or outside, or with a product of 2^32 or 2^32 + 16,384.
-fn plane_sizes(r: &mut Random) -> [u32; 4] {
-    const LIMITS: [u32; 4] = [16, 1024, 4096, 4096];
-    let mut sizes = [3, 4, 6, 6].map(|most| r.range(1, most) as u32);
+/// Products of 2^32, of 2^32 + 16,384, and of 2^25.
+const LARGE_SIZES: [[u32; 5]; 6] = [
+    [16, 1024, 1, 4096, 64], [16, 1024, 64, 64, 64], [16, 1024, 1, 481, 545], [16, 1024, 481, 545, 1], [16, 1024, 2, 32, 32], [1, 1, 4096, 128, 64],
+];
+
+/// N, C, Z, Y and X: small, or two of them at their limits, or outside, or with a large product.
+fn plane_sizes(r: &mut Random) -> [u32; 5] {
+    const LIMITS: [u32; 5] = [16, 1024, 4096, 4096, 4096];
+    let mut sizes = [3, 4, 4, 6, 6].map(|most| r.range(1, most) as u32);
     match r.range(0, 11) {
-        0 => sizes = r.pick(&[[16, 1024, 4096, 64], [16, 1024, 481, 545]]),
+        0 => sizes = r.pick(&LARGE_SIZES),
         1 | 2 => {
-            sizes = [1; 4];
-            for at in [r.range(0, 3) as usize, r.range(0, 3) as usize] {
+            sizes = [1; 5];
+            for at in [r.range(0, 4) as usize, r.range(0, 4) as usize] {
                 sizes[at] = LIMITS[at] - r.range(0, 1) as u32;
             }
         }
         3..=5 => {
             for _ in 0..r.range(1, 2) {
-                let at = r.range(0, 3) as usize;
+                let at = r.range(0, 4) as usize;
                 sizes[at] = r.pick(&[0, LIMITS[at] + 1, LIMITS[at] + 1, 65_536, 1 << 31, u32::MAX]);
             }
         }
@@ -396,5 +432,5 @@ pub fn pick(r: &mut Random) -> Pick {
     if r.chance(8) {
         len = r.pick(&[len + 1, len + 1, len.saturating_sub(1), len.saturating_sub(1), len / 2, 0]);
     }
-    Pick { len, sizes, image: position(r, sizes[0]), channel: position(r, sizes[1]) }
+    Pick { len, sizes, image: position(r, sizes[0]), channel: position(r, sizes[1]), depth: position(r, sizes[2]) }
 }

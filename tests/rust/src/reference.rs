@@ -30,6 +30,11 @@ pub struct Axis {
 
 pub const UNUSED: Axis = Axis { size: 1, kernel: 1, stride: 1, dilation: 1, begin: 0, end: 0, extra: 0 };
 
+/// The places of the three axes in every array of them.
+pub const Z: usize = 0;
+pub const Y: usize = 1;
+pub const X: usize = 2;
+
 #[derive(Clone, Copy, Debug, PartialEq, Eq)]
 pub struct Layer {
     pub op: Op,
@@ -39,11 +44,35 @@ pub struct Layer {
     pub g: u64,
     pub o: u64,
     pub i: u64,
-    pub y: Axis,
-    pub x: Axis,
+    /// Z, Y and X, of which the last `axes` are used.
+    pub spatial: [Axis; 3],
     pub auto_pad: AutoPad,
     pub ceil: bool,
     pub axis: i64,
+}
+
+impl Layer {
+    /// A layer with every size 1 and every attribute at its default.
+    pub fn new(op: Op, axes: u64) -> Layer {
+        Layer { op, axes, n: 1, c: 1, g: 1, o: 1, i: 1, spatial: [UNUSED; 3], auto_pad: AutoPad::Explicit, ceil: false, axis: 0 }
+    }
+
+    pub fn used(&self) -> &[Axis] {
+        &self.spatial[3 - self.axes as usize..]
+    }
+
+    pub fn used_mut(&mut self) -> &mut [Axis] {
+        &mut self.spatial[3 - self.axes as usize..]
+    }
+
+    /// Input sizes along Z, Y and X.
+    fn sizes(&self) -> [u64; 3] {
+        self.spatial.map(|a| a.size)
+    }
+
+    fn kernels(&self) -> [u64; 3] {
+        self.spatial.map(|a| a.kernel)
+    }
 }
 
 /// A number of the table, with the line (20 to 23), or the tensor, its first bad place and the number of its bad elements (9).
@@ -65,6 +94,19 @@ pub fn refuse(number: u32) -> Refusal {
 const KEYS: [&str; 12] = [
     "op", "axes", "input", "kernel", "strides", "dilations", "auto_pad", "pads_begin", "pads_end", "output_padding", "rounding", "axis",
 ];
+const OPS: [(&str, Op); 3] = [("convolution", Op::Convolution), ("transposed", Op::Transposed), ("maxpool", Op::MaxPool)];
+const AUTO_PADS: [(&str, AutoPad); 4] =
+    [("explicit", AutoPad::Explicit), ("same_upper", AutoPad::SameUpper), ("same_lower", AutoPad::SameLower), ("valid", AutoPad::Valid)];
+const ROUNDINGS: [(&str, bool); 2] = [("floor", false), ("ceil", true)];
+
+/// What a word means, or number 22.
+fn meaning<T: Copy>(words: &[(&str, T)], text: &[u8]) -> Result<T, u32> {
+    words.iter().find(|(word, _)| word.as_bytes() == text).map(|(_, meant)| *meant).ok_or(22)
+}
+
+fn word<T: PartialEq>(words: &[(&str, T)], meant: T) -> String {
+    words.iter().find(|(_, m)| *m == meant).expect("every meaning has a word").0.to_string()
+}
 
 fn number(text: &[u8]) -> Option<u64> {
     if text.is_empty() || !text.iter().all(u8::is_ascii_digit) || (text.len() > 1 && text[0] == b'0') || text.len() > 10 {
@@ -72,11 +114,6 @@ fn number(text: &[u8]) -> Option<u64> {
     }
     let value = text.iter().fold(0u64, |v, b| v * 10 + u64::from(b - b'0'));
     (value <= u64::from(u32::MAX)).then_some(value)
-}
-
-fn numbers(text: &[u8], count: usize) -> Option<Vec<u64>> {
-    let list: Option<Vec<u64>> = text.split(|b| *b == b',').map(number).collect();
-    list.filter(|l| l.len() == count)
 }
 
 fn axis_value(text: &[u8]) -> Option<i64> {
@@ -87,170 +124,87 @@ fn axis_value(text: &[u8]) -> Option<i64> {
     }
 }
 
+/// The fields that a list shows, in its order.
+fn list<'a>(l: &'a mut Layer, key: &str) -> Vec<&'a mut u64> {
+    let unused = 3 - l.axes as usize;
+    let head = match (key, l.op) {
+        ("input", _) => vec![&mut l.n, &mut l.c],
+        ("kernel", Op::Convolution) => vec![&mut l.g, &mut l.o, &mut l.i],
+        ("kernel", Op::Transposed) => vec![&mut l.g, &mut l.i, &mut l.o],
+        _ => vec![],
+    };
+    let along = l.spatial[unused..].iter_mut().map(|a| match key {
+        "input" => &mut a.size,
+        "kernel" => &mut a.kernel,
+        "strides" => &mut a.stride,
+        "dilations" => &mut a.dilation,
+        "pads_begin" => &mut a.begin,
+        "pads_end" => &mut a.end,
+        _ => &mut a.extra,
+    });
+    head.into_iter().chain(along).collect()
+}
+
+/// The numbers of a list into the layer, or number 21.
+fn set_list(l: &mut Layer, key: &str, text: &[u8]) -> Result<(), u32> {
+    let values: Option<Vec<u64>> = text.split(|b| *b == b',').map(number).collect();
+    let fields = list(l, key);
+    let values = values.filter(|v| v.len() == fields.len()).ok_or(21u32)?;
+    for (field, value) in fields.into_iter().zip(values) {
+        *field = value;
+    }
+    Ok(())
+}
+
+/// One line's value into the layer, or its number.
+fn set_line(l: &mut Layer, key: &str, text: &[u8]) -> Result<(), u32> {
+    match key {
+        "op" => l.op = meaning(&OPS, text)?,
+        "axes" => l.axes = number(text).filter(|n| (1..=3).contains(n)).ok_or(21u32)?,
+        "auto_pad" => l.auto_pad = meaning(&AUTO_PADS, text)?,
+        "rounding" => l.ceil = meaning(&ROUNDINGS, text)?,
+        "axis" => l.axis = axis_value(text).ok_or(21u32)?,
+        _ => set_list(l, key, text)?,
+    }
+    let default = match key {
+        "output_padding" => l.op == Op::Transposed || l.spatial.iter().all(|a| a.extra == 0),
+        "rounding" => l.op == Op::MaxPool || !l.ceil,
+        "axis" => l.op == Op::MaxPool || l.axis == 0,
+        _ => true,
+    };
+    if default { Ok(()) } else { Err(23) }
+}
+
 /// The layer, or the number and the line of the first bad line.
 pub fn read_sheet(sheet: &[u8]) -> Result<Layer, Refusal> {
     let mut rest = sheet;
-    let mut values: Vec<&[u8]> = Vec::new();
-    let mut layer = Layer {
-        op: Op::Convolution, axes: 2, n: 1, c: 1, g: 1, o: 1, i: 1, y: UNUSED, x: UNUSED, auto_pad: AutoPad::Explicit, ceil: false, axis: 0,
-    };
+    let mut layer = Layer::new(Op::Convolution, 1);
     for (index, key) in KEYS.iter().enumerate() {
-        let line = index as u32 + 1;
-        let bad = |n: u32| Refusal { line, ..refuse(n) };
+        let bad = |number: u32| Refusal { line: index as u32 + 1, ..refuse(number) };
         let head = format!("{key}=");
         let end = rest.iter().position(|b| *b == 10);
         let (Some(end), true) = (end, rest.starts_with(head.as_bytes())) else {
             return Err(bad(20));
         };
         // A key holds no line end, so the value starts before it.
-        let value = &rest[head.len()..end];
+        set_line(&mut layer, key, &rest[head.len()..end]).map_err(bad)?;
         rest = &rest[end + 1..];
-        values.push(value);
-        set_line(&mut layer, index, value).map_err(bad)?;
     }
     if rest.is_empty() { Ok(layer) } else { Err(Refusal { line: 13, ..refuse(20) }) }
 }
 
-/// One line's value into the layer, or its number.
-fn set_line(l: &mut Layer, index: usize, value: &[u8]) -> Result<(), u32> {
-    let axes = l.axes as usize;
-    let list = |count: usize| numbers(value, count).ok_or(21u32);
-    // Y's and X's number of a list that ends with them.
-    let pair = |v: &[u64]| if v.len() == 1 { (None, v[0]) } else { (Some(v[0]), v[1]) };
-    match index {
-        0 => {
-            l.op = match value {
-                b"convolution" => Op::Convolution,
-                b"transposed" => Op::Transposed,
-                b"maxpool" => Op::MaxPool,
-                _ => return Err(22),
-            }
-        }
-        1 => match number(value) {
-            Some(n @ 1..=2) => l.axes = n,
-            _ => return Err(21),
-        },
-        2 => {
-            let v = list(axes + 2)?;
-            l.n = v[0];
-            l.c = v[1];
-            let (y, x) = pair(&v[2..]);
-            l.y.size = y.unwrap_or(1);
-            l.x.size = x;
-        }
-        3 => {
-            let channels = if l.op == Op::MaxPool { 0 } else { 3 };
-            let v = list(axes + channels)?;
-            if channels == 3 {
-                l.g = v[0];
-                let (o, i) = if l.op == Op::Transposed { (v[2], v[1]) } else { (v[1], v[2]) };
-                l.o = o;
-                l.i = i;
-            }
-            let (y, x) = pair(&v[channels..]);
-            l.y.kernel = y.unwrap_or(1);
-            l.x.kernel = x;
-        }
-        4 => {
-            let v = list(axes)?;
-            let (y, x) = pair(&v);
-            l.y.stride = y.unwrap_or(1);
-            l.x.stride = x;
-        }
-        5 => {
-            let v = list(axes)?;
-            let (y, x) = pair(&v);
-            l.y.dilation = y.unwrap_or(1);
-            l.x.dilation = x;
-        }
-        6 => {
-            l.auto_pad = match value {
-                b"explicit" => AutoPad::Explicit,
-                b"same_upper" => AutoPad::SameUpper,
-                b"same_lower" => AutoPad::SameLower,
-                b"valid" => AutoPad::Valid,
-                _ => return Err(22),
-            }
-        }
-        7 => {
-            let v = list(axes)?;
-            let (y, x) = pair(&v);
-            l.y.begin = y.unwrap_or(0);
-            l.x.begin = x;
-        }
-        8 => {
-            let v = list(axes)?;
-            let (y, x) = pair(&v);
-            l.y.end = y.unwrap_or(0);
-            l.x.end = x;
-        }
-        9 => {
-            let v = list(axes)?;
-            if l.op != Op::Transposed && v.iter().any(|p| *p != 0) {
-                return Err(23);
-            }
-            let (y, x) = pair(&v);
-            l.y.extra = y.unwrap_or(0);
-            l.x.extra = x;
-        }
-        10 => {
-            l.ceil = match value {
-                b"floor" => false,
-                b"ceil" => true,
-                _ => return Err(22),
-            };
-            if l.op != Op::MaxPool && l.ceil {
-                return Err(23);
-            }
-        }
-        _ => {
-            l.axis = axis_value(value).ok_or(21u32)?;
-            if l.op != Op::MaxPool && l.axis != 0 {
-                return Err(23);
-            }
-        }
-    }
-    Ok(())
-}
-
 /// The sheet of a layer whose lines can show it.
 pub fn show_sheet(l: &Layer) -> String {
-    let join = |v: &[u64]| v.iter().map(u64::to_string).collect::<Vec<_>>().join(",");
-    let pair = |y: u64, x: u64| if l.axes == 1 { vec![x] } else { vec![y, x] };
-    let mut input = vec![l.n, l.c];
-    input.extend(pair(l.y.size, l.x.size));
-    let mut kernel = match l.op {
-        Op::Convolution => vec![l.g, l.o, l.i],
-        Op::Transposed => vec![l.g, l.i, l.o],
-        Op::MaxPool => vec![],
+    let mut copy = *l;
+    let mut value = |key: &str| match key {
+        "op" => word(&OPS, l.op),
+        "axes" => l.axes.to_string(),
+        "auto_pad" => word(&AUTO_PADS, l.auto_pad),
+        "rounding" => word(&ROUNDINGS, l.ceil),
+        "axis" => l.axis.to_string(),
+        _ => list(&mut copy, key).iter().map(|v| v.to_string()).collect::<Vec<_>>().join(","),
     };
-    kernel.extend(pair(l.y.kernel, l.x.kernel));
-    let values = [
-        match l.op {
-            Op::Convolution => "convolution",
-            Op::Transposed => "transposed",
-            Op::MaxPool => "maxpool",
-        }
-        .to_string(),
-        l.axes.to_string(),
-        join(&input),
-        join(&kernel),
-        join(&pair(l.y.stride, l.x.stride)),
-        join(&pair(l.y.dilation, l.x.dilation)),
-        match l.auto_pad {
-            AutoPad::Explicit => "explicit",
-            AutoPad::SameUpper => "same_upper",
-            AutoPad::SameLower => "same_lower",
-            AutoPad::Valid => "valid",
-        }
-        .to_string(),
-        join(&pair(l.y.begin, l.x.begin)),
-        join(&pair(l.y.end, l.x.end)),
-        join(&pair(l.y.extra, l.x.extra)),
-        if l.ceil { "ceil" } else { "floor" }.to_string(),
-        l.axis.to_string(),
-    ];
-    KEYS.iter().zip(values).map(|(k, v)| format!("{k}={v}\n")).collect()
+    KEYS.iter().map(|key| format!("{key}={}\n", value(key))).collect()
 }
 
 // ---- checks 1 to 7
@@ -264,8 +218,8 @@ pub struct Along {
 
 #[derive(Clone, Copy, Debug, PartialEq, Eq)]
 pub struct Shape {
-    pub y: Along,
-    pub x: Along,
+    /// Along Z, Y and X.
+    pub along: [Along; 3],
     pub taps: u64,
     pub inputs: u64,
     pub weights: u64,
@@ -279,12 +233,43 @@ fn product(v: &[u64]) -> u128 {
     v.iter().fold(1u128, |p, s| p.saturating_mul(u128::from(*s)))
 }
 
+fn within(v: u64, least: u64, most: u64) -> bool {
+    (least..=most).contains(&v)
+}
+
+/// Whether number 1 does not hold.
+fn dimensions_ok(op: Op, l: &Layer) -> bool {
+    within(l.axes, 1, 3)
+        && within(l.n, 1, 16)
+        && within(l.c, 1, 1024)
+        && l.used().iter().all(|a| within(a.size, 1, 4096) && within(a.kernel, 1, 64))
+        && (op == Op::MaxPool || [l.g, l.o, l.i].iter().all(|v| within(*v, 1, 1024)))
+}
+
+/// Whether number 2 does not hold.
+fn attributes_ok(op: Op, l: &Layer) -> bool {
+    let (pool, transposed) = (op == Op::MaxPool, op == Op::Transposed);
+    let ignored = l.auto_pad != AutoPad::Explicit;
+    let looked_at = l.spatial.map(|a| if ignored { Axis { begin: 0, end: 0, ..a } } else { a });
+    let (unused, used) = looked_at.split_at(3 - l.axes as usize);
+    let axis_ok = |a: &Axis| {
+        let padding = if transposed { 15 } else { 0 };
+        within(a.stride, 1, 16) && within(a.dilation, 1, 16) && a.begin <= 1024 && a.end <= 1024 && a.extra <= padding
+    };
+    let rank = l.axes as i64 + 2;
+    l.op == op
+        && used.iter().all(axis_ok)
+        && unused.iter().all(|a| *a == UNUSED)
+        && !(transposed && matches!(l.auto_pad, AutoPad::SameUpper | AutoPad::SameLower))
+        && if pool { (-rank..rank).contains(&l.axis) && (l.g, l.o, l.i) == (1, 1, 1) } else { !l.ceil && l.axis == 0 }
+}
+
 fn ceil_div(a: i64, b: i64) -> i64 {
     (a + b - 1).div_euclid(b)
 }
 
 /// Number 5, or the size along one axis.
-fn size(op: Op, mode: AutoPad, ceil: bool, a: &Axis) -> Option<Along> {
+fn size_along(op: Op, mode: AutoPad, ceil: bool, a: &Axis) -> Option<Along> {
     let (n, s) = (a.size as i64, a.stride as i64);
     let k = (a.kernel as i64 - 1) * a.dilation as i64 + 1;
     let (begin, end) = match mode {
@@ -319,66 +304,41 @@ fn size(op: Op, mode: AutoPad, ceil: bool, a: &Axis) -> Option<Along> {
     (out >= 1).then_some(Along { begin, out })
 }
 
+/// The input's place along one axis at tap k of output p, if there is one.
+fn tap(op: Op, a: &Axis, s: &Along, p: u64, k: u64) -> Option<u64> {
+    let (p, stride, step) = (p as i64, a.stride as i64, (k * a.dilation) as i64);
+    let place = match op {
+        Op::Transposed if (p + s.begin - step).rem_euclid(stride) != 0 => return None,
+        Op::Transposed => (p + s.begin - step).div_euclid(stride),
+        _ => p * stride - s.begin + step,
+    };
+    (0..a.size as i64).contains(&place).then_some(place as u64)
+}
+
+/// Whether some output along the axis has no tap inside: its windows hold no element, whatever the other axes have.
+fn misses(a: &Axis, s: &Along) -> bool {
+    (0..s.out as u64).any(|p| (0..a.kernel).all(|k| tap(Op::MaxPool, a, s, p, k).is_none()))
+}
+
 /// Checks 1 to 7 by the operator that is called.
 pub fn judge(op: Op, l: &Layer) -> Result<Shape, Refusal> {
-    let within = |v: u64, lo: u64, hi: u64| (lo..=hi).contains(&v);
+    let check = |number: u32, ok: bool| if ok { Ok(()) } else { Err(refuse(number)) };
     let pool = op == Op::MaxPool;
-    let used: Vec<&Axis> = if l.axes == 1 { vec![&l.x] } else { vec![&l.y, &l.x] };
-    // 1
-    let mut ok = within(l.axes, 1, 2) && within(l.n, 1, 16) && within(l.c, 1, 1024);
-    ok &= used.iter().all(|a| within(a.size, 1, 4096) && within(a.kernel, 1, 64));
-    ok &= pool || [l.g, l.o, l.i].iter().all(|v| within(*v, 1, 1024));
-    if !ok {
-        return Err(refuse(1));
+    check(1, dimensions_ok(op, l))?;
+    check(2, attributes_ok(op, l))?;
+    check(3, pool || l.c == l.g * l.i)?;
+    let (size, kernel) = (product(&l.sizes()), product(&l.kernels()));
+    let (taps, inputs, weights) = (u128::from(l.i) * kernel, product(&[l.n, l.c]) * size, product(&[l.g, l.o, l.i]) * kernel);
+    check(4, (pool || taps <= 4096) && inputs <= LARGEST && weights <= LARGEST)?;
+    let mut along = [Along { begin: 0, out: 0 }; 3];
+    for (s, a) in along.iter_mut().zip(&l.spatial) {
+        *s = size_along(op, l.auto_pad, l.ceil, a).ok_or(refuse(5))?;
     }
-    // 2
-    let explicit = l.auto_pad == AutoPad::Explicit;
-    ok = l.op == op;
-    ok &= used.iter().all(|a| {
-        within(a.stride, 1, 16)
-            && within(a.dilation, 1, 16)
-            && (!explicit || (a.begin <= 1024 && a.end <= 1024))
-            && a.extra <= 15
-            && (op == Op::Transposed || a.extra == 0)
-    });
-    if l.axes == 1 {
-        let y = Axis { begin: if explicit { l.y.begin } else { 0 }, end: if explicit { l.y.end } else { 0 }, ..l.y };
-        ok &= y == UNUSED;
-    }
-    ok &= !(op == Op::Transposed && matches!(l.auto_pad, AutoPad::SameUpper | AutoPad::SameLower));
-    let rank = l.axes as i64 + 2;
-    ok &= if pool { (-rank..rank).contains(&l.axis) && (l.g, l.o, l.i) == (1, 1, 1) } else { !l.ceil && l.axis == 0 };
-    if !ok {
-        return Err(refuse(2));
-    }
-    // 3
-    if !pool && l.c != l.g * l.i {
-        return Err(refuse(3));
-    }
-    // 4
-    let taps = product(&[l.i, l.y.kernel, l.x.kernel]);
-    let inputs = product(&[l.n, l.c, l.y.size, l.x.size]);
-    let weights = product(&[l.g, l.o, l.i, l.y.kernel, l.x.kernel]);
-    if (!pool && taps > 4096) || inputs > LARGEST || weights > LARGEST {
-        return Err(refuse(4));
-    }
-    // 5
-    let along = |a: &Axis| size(op, l.auto_pad, l.ceil, a).ok_or(refuse(5));
-    let (y, x) = (along(&l.y)?, along(&l.x)?);
-    // 6
     let channels = if pool { l.c } else { l.g * l.o };
-    let outputs = product(&[l.n, channels, y.out as u64, x.out as u64]);
-    if outputs > LARGEST {
-        return Err(refuse(6));
-    }
-    // 7
-    let empty = |a: &Axis, s: &Along| {
-        (0..s.out).any(|p| (0..a.kernel as i64).all(|k| !(0..a.size as i64).contains(&(p * a.stride as i64 - s.begin + k * a.dilation as i64))))
-    };
-    if pool && (empty(&l.y, &y) || empty(&l.x, &x)) {
-        return Err(refuse(7));
-    }
-    Ok(Shape { y, x, taps: taps as u64, inputs: inputs as u64, weights: weights as u64, channels, outputs: outputs as u64 })
+    let outputs = along.iter().fold(product(&[l.n, channels]), |p, s| p * s.out as u128);
+    check(6, outputs <= LARGEST)?;
+    check(7, !pool || !l.spatial.iter().zip(&along).any(|(a, s)| misses(a, s)))?;
+    Ok(Shape { along, taps: taps as u64, inputs: inputs as u64, weights: weights as u64, channels, outputs: outputs as u64 })
 }
 
 // ---- checks 8 and 9
@@ -396,63 +356,68 @@ pub fn elements(tensor: u32, t: &[f32]) -> Result<(), Refusal> {
     }
 }
 
+// ---- places
+
+/// All positions below three sizes, the last rising fastest.
+fn positions([a, b, c]: [u64; 3]) -> impl Iterator<Item = [u64; 3]> {
+    (0..a).flat_map(move |z| (0..b).flat_map(move |y| (0..c).map(move |x| [z, y, x])))
+}
+
+/// The flat place of a position in a row-major tensor.
+fn flat(at: [u64; 3], sizes: [u64; 3]) -> usize {
+    at.iter().zip(sizes).fold(0, |place, (p, size)| place * size + p) as usize
+}
+
+/// The taps of output p, by kz, ky, kx rising: each one's flat place in a channel of the input, if it is inside on every axis.
+fn taps_of(l: &Layer, shape: &Shape, p: [u64; 3]) -> Vec<Option<usize>> {
+    let place = |k: [u64; 3]| {
+        let along = |d: usize| tap(l.op, &l.spatial[d], &shape.along[d], p[d], k[d]);
+        Some(flat([along(Z)?, along(Y)?, along(X)?], l.sizes()))
+    };
+    positions(l.kernels()).map(place).collect()
+}
+
+/// The taps of every output of a channel, in row-major order. All channels have the same.
+fn all_taps(l: &Layer, shape: &Shape) -> Vec<Vec<Option<usize>>> {
+    positions(shape.along.map(|s| s.out as u64)).map(|p| taps_of(l, shape, p)).collect()
+}
+
+/// A tensor's parts of these sizes, one after the other.
+fn parts(tensor: &[f32], sizes: [u64; 3]) -> Vec<&[f32]> {
+    tensor.chunks(product(&sizes) as usize).collect()
+}
+
 // ---- the convolutions
-
-/// One output's taps: the products' factors in order, and whether each takes part.
-pub struct Taps<'a> {
-    pub shape: Shape,
-    layer: &'a Layer,
-    input: &'a [f32],
-    kernel: &'a [f32],
-}
-
-impl Taps<'_> {
-    /// The taps of output (n, g, o, y, x), by i, ky, kx rising: an input value and a weight each.
-    fn of(&self, n: i64, g: i64, o: i64, y: i64, x: i64) -> Vec<(f32, f32)> {
-        let l = self.layer;
-        let mut taps = Vec::new();
-        for i in 0..l.i as i64 {
-            for ky in 0..l.y.kernel as i64 {
-                for kx in 0..l.x.kernel as i64 {
-                    let channel = g * l.i as i64 + i;
-                    if l.op == Op::Convolution {
-                        let row = y * l.y.stride as i64 - self.shape.y.begin + ky * l.y.dilation as i64;
-                        let column = x * l.x.stride as i64 - self.shape.x.begin + kx * l.x.dilation as i64;
-                        let value = self.input_at(n, channel, row, column).unwrap_or(0.0);
-                        taps.push((value, self.weight(&[g, o, i, ky, kx], &[l.g, l.o, l.i, l.y.kernel, l.x.kernel])));
-                    } else {
-                        let row = y + self.shape.y.begin - ky * l.y.dilation as i64;
-                        let column = x + self.shape.x.begin - kx * l.x.dilation as i64;
-                        let (sy, sx) = (l.y.stride as i64, l.x.stride as i64);
-                        if row.rem_euclid(sy) != 0 || column.rem_euclid(sx) != 0 {
-                            continue;
-                        }
-                        if let Some(value) = self.input_at(n, channel, row.div_euclid(sy), column.div_euclid(sx)) {
-                            taps.push((value, self.weight(&[g, i, o, ky, kx], &[l.g, l.i, l.o, l.y.kernel, l.x.kernel])));
-                        }
-                    }
-                }
-            }
-        }
-        taps
-    }
-
-    fn input_at(&self, n: i64, c: i64, y: i64, x: i64) -> Option<f32> {
-        let l = self.layer;
-        let (height, width) = (l.y.size as i64, l.x.size as i64);
-        ((0..height).contains(&y) && (0..width).contains(&x)).then(|| self.input[(((n * l.c as i64 + c) * height + y) * width + x) as usize])
-    }
-
-    fn weight(&self, at: &[i64], sizes: &[u64]) -> f32 {
-        self.kernel[at.iter().zip(sizes).fold(0, |p, (a, s)| p * *s as i64 + a) as usize]
-    }
-}
 
 /// An output's f32 sum, and its exact account where every factor is a whole number: the sum and the total of magnitudes.
 pub struct Sum {
     pub value: f32,
     pub exact: i128,
     pub magnitudes: i128,
+}
+
+impl Sum {
+    fn add(&mut self, value: f32, weight: f32) {
+        self.value += value * weight;
+        let p = value as i128 * weight as i128;
+        self.exact += p;
+        self.magnitudes += p.abs();
+    }
+}
+
+/// An output from the input and the weights of each channel that it takes, by i, kz, ky, kx rising.
+fn sum(op: Op, channels: &[(&[f32], &[f32])], taps: &[Option<usize>]) -> Sum {
+    let mut sum = Sum { value: 0.0, exact: 0, magnitudes: 0 };
+    for (input, weights) in channels {
+        for (tap, weight) in taps.iter().zip(*weights) {
+            match tap {
+                Some(place) => sum.add(input[*place], *weight),
+                None if op == Op::Convolution => sum.add(0.0, *weight),
+                None => {}
+            }
+        }
+    }
+    sum
 }
 
 /// Either convolution: every output in row-major order.
@@ -463,30 +428,38 @@ pub fn convolve(op: Op, l: &Layer, input: &[f32], kernel: &[f32], outputs: usize
     }
     elements(0, input)?;
     elements(1, kernel)?;
-    let taps = Taps { shape, layer: l, input, kernel };
+    let (inputs, weights, taps) = (parts(input, l.sizes()), parts(kernel, l.kernels()), all_taps(l, &shape));
     let mut sums = Vec::with_capacity(outputs);
-    for n in 0..l.n as i64 {
-        for g in 0..l.g as i64 {
-            for o in 0..l.o as i64 {
-                for y in 0..shape.y.out {
-                    for x in 0..shape.x.out {
-                        let mut sum = Sum { value: 0.0, exact: 0, magnitudes: 0 };
-                        for (v, w) in taps.of(n, g, o, y, x) {
-                            sum.value += v * w;
-                            let p = v as i128 * w as i128;
-                            sum.exact += p;
-                            sum.magnitudes += p.abs();
-                        }
-                        sums.push(sum);
-                    }
-                }
-            }
-        }
+    for [n, g, o] in positions([l.n, l.g, l.o]) {
+        let channel = |i: u64| {
+            let weight = if op == Op::Transposed { flat([g, i, o], [l.g, l.i, l.o]) } else { flat([g, o, i], [l.g, l.o, l.i]) };
+            (inputs[flat([n, g, i], [l.n, l.g, l.i])], weights[weight])
+        };
+        let channels: Vec<_> = (0..l.i).map(channel).collect();
+        sums.extend(taps.iter().map(|taps| sum(op, &channels, taps)));
     }
     Ok((shape, sums))
 }
 
 // ---- pooling
+
+/// What the indices are counted modulo: the product of the dimensions from `axis` on.
+fn modulus(l: &Layer) -> u64 {
+    let dimensions: Vec<u64> = [l.n, l.c].into_iter().chain(l.used().iter().map(|a| a.size)).collect();
+    let from = if l.axis < 0 { l.axis + dimensions.len() as i64 } else { l.axis };
+    dimensions[from as usize..].iter().product()
+}
+
+/// The best value of a window and its place in the channel: the first of the largest ones.
+fn best(input: &[f32], taps: &[Option<usize>]) -> (f32, usize) {
+    let mut found: Option<(f32, usize)> = None;
+    for place in taps.iter().flatten() {
+        if found.is_none_or(|(value, _)| input[*place] > value) {
+            found = Some((input[*place], *place));
+        }
+    }
+    found.expect("check 7 leaves no empty window")
+}
 
 pub fn max_pool(l: &Layer, input: &[f32], values: usize, indices: usize) -> Result<(Vec<f32>, Vec<i64>), Refusal> {
     let shape = judge(Op::MaxPool, l)?;
@@ -494,50 +467,31 @@ pub fn max_pool(l: &Layer, input: &[f32], values: usize, indices: usize) -> Resu
         return Err(refuse(8));
     }
     elements(0, input)?;
-    let dims: Vec<i64> = if l.axes == 1 { vec![l.n, l.c, l.x.size] } else { vec![l.n, l.c, l.y.size, l.x.size] }.into_iter().map(|d| d as i64).collect();
-    let axis = if l.axis < 0 { l.axis + dims.len() as i64 } else { l.axis } as usize;
-    let modulus: i64 = dims[axis..].iter().product();
-    let (mut best, mut places) = (Vec::new(), Vec::new());
-    for plane in 0..(l.n * l.c) as i64 {
-        for y in 0..shape.y.out {
-            for x in 0..shape.x.out {
-                let mut found: Option<(f32, i64)> = None;
-                for ky in 0..l.y.kernel as i64 {
-                    for kx in 0..l.x.kernel as i64 {
-                        let row = y * l.y.stride as i64 - shape.y.begin + ky * l.y.dilation as i64;
-                        let column = x * l.x.stride as i64 - shape.x.begin + kx * l.x.dilation as i64;
-                        if !(0..l.y.size as i64).contains(&row) || !(0..l.x.size as i64).contains(&column) {
-                            continue;
-                        }
-                        let place = (plane * l.y.size as i64 + row) * l.x.size as i64 + column;
-                        let value = input[place as usize];
-                        if found.is_none_or(|(b, _)| value > b) {
-                            found = Some((value, place));
-                        }
-                    }
-                }
-                let (value, place) = found.expect("check 7 leaves no empty window");
-                best.push(value);
-                places.push(place % modulus);
-            }
+    let (modulus, taps) = (modulus(l), all_taps(l, &shape));
+    let (mut best_values, mut places) = (Vec::new(), Vec::new());
+    for (channel, input) in parts(input, l.sizes()).into_iter().enumerate() {
+        for (value, place) in taps.iter().map(|taps| best(input, taps)) {
+            best_values.push(value);
+            places.push(((channel * input.len() + place) as u64 % modulus) as i64);
         }
     }
-    Ok((best, places))
+    Ok((best_values, places))
 }
 
 // ---- the plane picker
 
-/// Where the plane of an image and a channel lies in a tensor of `len` elements, or nothing where it is refused.
-pub fn pick_plane(len: usize, sizes: [u32; 4], image: u32, channel: u32) -> Option<Range<usize>> {
-    let [n, c, y, x] = sizes.map(u64::from);
-    let (image, channel) = (u64::from(image), u64::from(channel));
-    let within = (1..=16).contains(&n) && (1..=1024).contains(&c) && (1..=4096).contains(&y) && (1..=4096).contains(&x);
-    if !within || product(&[n, c, y, x]) != len as u128 || image >= n || channel >= c {
+/// Where the plane at an image, a channel and a depth lies in a tensor of `len` elements, or nothing where it is refused.
+pub fn pick_plane(len: usize, sizes: [u32; 5], image: u32, channel: u32, depth: u32) -> Option<Range<usize>> {
+    let sizes = sizes.map(u64::from);
+    let [n, c, z, y, x] = sizes;
+    let within = sizes.iter().zip([16, 1024, 4096, 4096, 4096]).all(|(size, most)| within(*size, 1, most));
+    let [image, channel, depth] = [image, channel, depth].map(u64::from);
+    if !within || product(&sizes) != len as u128 || image >= n || channel >= c || depth >= z {
         return None;
     }
-    // All channels of the images before it come first, then the channels before it.
+    // All planes of the images before it come first, then those of the channels before it, then the depths before it.
     let plane = (y * x) as usize;
-    let before = (image * c + channel) as usize * plane;
+    let before = ((image * c + channel) * z + depth) as usize * plane;
     Some(before..before + plane)
 }
 

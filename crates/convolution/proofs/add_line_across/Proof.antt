@@ -55,7 +55,7 @@ add-line-across-spec =
     (tie.spec
     (λ c. search needs) (λ c. search needs) (λ c. search needs) (λ c. search needs) (λ c. search needs)
     (λ c. omega (arith, numbers (c .before .before .before .before .before .before .before))) (λ c κs. search needs)
-    (λ c. search needs)
+    (λ c. omega (arith, c .before .before .before .before .before .before .before .before .before .pre .0 .shape .sound .x .input-4096))
     (λ c. omega (arith, c .before .before .before .before .before .before .before .before .before .pre .0 .shape .sound .x))
     (λ c κs. search needs)
     (λ c. omega (arith, numbers (c .before .before .before .before .before .before .before .before .before .before .before)))

@@ -9,7 +9,7 @@ use Rattle.faults.proofs.pad_fault.Tie as tie
 returns-6 : tie.Need-returns-6
 returns-6 c =
     let a = c .before .before .before .before .before .before .before .before .before .before .before in
-    let e = rw (toZ-ofZ {w = w32} {z = a .before .before .before .args .l .axis} (record { sfits = a .struct-told .given .1 .1 .1 .1 .1 .1 .1 .1 .1 .1 .1 .0 .1 })) at (c .axis-fault .ensures) in
+    let e = rw (toZ-ofZ {w = w32} {z = a .before .before .before .before .args .l .axis} (record { sfits = a .struct-told .given .1 .1 .1 .1 .1 .1 .1 .1 .1 .1 .1 .1 .0 .1 })) at (c .axis-fault .ensures) in
     search steps
 
 pub pad-fault-spec : {M : Type 1} → statement M

@@ -7,4 +7,7 @@ pub unused-padding-spec : {M : Type 1} → statement M
 unused-padding-spec =
     tie.close
     (tie.spec
-    (λ c κs. search needs) (λ c. rw (c .is-transposed .ensures)))
+    (λ c κs. search needs) (λ c κs. search needs) (λ c κs. search needs) (λ c κs. search needs)
+    (λ c.
+    let z = c .before .before in
+    rw (z .before .is-transposed .ensures, z .is-default-padding .ensures, c .before .is-default-padding2 .ensures, c .is-default-padding3 .ensures)))

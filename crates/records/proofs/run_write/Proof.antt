@@ -1,4 +1,4 @@
--- `run_write` is safe: at most 400 of the 512 bytes are lent.
+-- `run_write` is safe: at most 480 of the 512 bytes are lent.
 use mathlib.Core.Path.{sym}
 use native.Mathlib.Omega.{arith}
 use lib.Seq.{length-take-le}

@@ -1,5 +1,4 @@
 -- The definition is opened here.
-use mathlib.Core.Path.{refl}
 use borrow.Author.Needs.{needs}
 use Rattle.shape.specs.Volumes.{outRows}
 use Rattle.shape.proofs.out_rows.Statement.{statement}
@@ -7,7 +6,7 @@ use Rattle.shape.proofs.out_rows.Tie as tie
 
 returns : tie.Need-returns
 unfolding outRows
-returns c = refl
+returns c = c .product .ensures
 
 pub out-rows-spec : {M : Type 1} → statement M
-out-rows-spec = tie.close (tie.spec (λ c. search needs) returns)
+out-rows-spec = tie.close (tie.spec (λ c κs. search needs) returns)

@@ -17,8 +17,9 @@ fits c =
       g = omega (arith, l .1 .1 .1 .1 .1 .1 .0 .1);
       o = omega (arith, l .1 .1 .1 .1 .1 .1 .1 .0 .1);
       i = omega (arith, l .1 .1 .1 .1 .1 .1 .1 .1 .0 .1);
-      y = axis-fits _ _ (l .1 .1 .1 .1 .1 .1 .1 .1 .1 .0);
-      x = axis-fits _ _ (l .1 .1 .1 .1 .1 .1 .1 .1 .1 .1 .0);
+      z = axis-fits _ _ (l .1 .1 .1 .1 .1 .1 .1 .1 .1 .0);
+      y = axis-fits _ _ (l .1 .1 .1 .1 .1 .1 .1 .1 .1 .1 .0);
+      x = axis-fits _ _ (l .1 .1 .1 .1 .1 .1 .1 .1 .1 .1 .1 .0);
     }
 
 returns : tie.Need-returns

@@ -37,8 +37,8 @@ weights : (c : tie.After-kernel-rows) → let t = c .before .before .before .bef
     RowBounds (a .s) (a .f) (a .i) (a .k) (t .tap .given .0 .0) (c .kernel-rows .result) (inputRows (a .s)) (length (now (a .input))) (length (now (a .kernel)))
 weights c = bounds (c .before .before .before .before .before .before .before .before) (c .kernel-rows .ensures) refl
 
-axis : (c : tie.After-row-of2) → SpanLimits (c .before .before .before .before .before .before .before .before .before .before .before .before .before .before .before .before .args .s .x)
-axis c = c .before .before .before .before .before .before .before .before .before .before .before .before .before .before .before .before .pre .0 .shape .sound .x
+axis : (c : tie.After-struct-known5) → SpanLimits (c .before .before .before .before .before .before .before .before .before .before .before .before .before .before .before .args .s .x)
+axis c = c .before .before .before .before .before .before .before .before .before .before .before .before .before .before .before .pre .0 .shape .sound .x
 
 returns : tie.Need-returns
 returns c =
@@ -49,7 +49,7 @@ returns c =
 add-taps-requires : tie.Need-add-taps-requires
 add-taps-requires c κs =
     let o = c .before .before .before .before in
-    let x = axis o in
+    let x = axis (o .before) in
     ((x .stride-1, (x .stride-16, (x .dilation-16, x .begin-1024))), rw (o .row-of2 .ensures, row-of-length _ _ (weights (o .before .before) .part)) (x .kernel-64))
 
 returns-2 : tie.Need-returns-2
@@ -78,6 +78,6 @@ add-row-spec =
     (λ c. search needs) (λ c κs. lines (c .before) .row)
     (λ c. omega (arith, lines (c .before .before .before)))
     (λ c. omega (arith, lines (c .before .before .before .before))) (λ c κs. search needs)
-    (λ c. omega (arith, weights c)) (λ c. omega (arith, weights c)) (λ c. search needs) (λ c κs. weights (c .before) .part)
-    (λ c. omega (arith, axis (c .before) .begin-1024)) (λ c. omega (arith, axis (c .before .before) .dilation-16))
-    (λ c. omega (arith, axis (c .before .before .before) .stride-16)) add-taps-requires same-length returns-2)
+    (λ c. omega (arith, weights c)) (λ c. omega (arith, weights c)) (λ c. omega (arith, axis c .kernel-64)) (λ c κs. weights (c .before) .part)
+    (λ c. omega (arith, axis (c .before .before) .begin-1024)) (λ c. omega (arith, axis (c .before .before .before) .dilation-16))
+    (λ c. omega (arith, axis (c .before .before .before .before) .stride-16)) add-taps-requires same-length returns-2)

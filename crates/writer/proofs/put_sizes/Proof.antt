@@ -15,7 +15,7 @@ returns c =
     let d = b .before .before .before .before .before in
     let e = d .before .before .before in
     put-then (rw (e .before .kernel-list .ensures, e .kernel-numbers .ensures) at (d .put-line .ensures))
-    (put-then (b .put-pair .ensures) (rw (append-nil _) (a .put-pair2 .ensures)))
+    (put-then (b .put-axes .ensures) (rw (append-nil _) (a .put-axes2 .ensures)))
 
 same-length : tie.Need-same-length
 same-length c = put-length (returns c)

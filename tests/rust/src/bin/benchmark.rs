@@ -6,7 +6,7 @@ use kozamyure_tests::baseline::{c_o2, c_o3, c_rows, plain_rust, Call, Outputs};
 use kozamyure_tests::chart::{chart, Row};
 use kozamyure_tests::generate::Random;
 use kozamyure_tests::reference::Op::{self, Convolution, MaxPool, Transposed};
-use kozamyure_tests::reference::{judge, show_sheet, AutoPad, Axis, Layer, UNUSED};
+use kozamyure_tests::reference::{judge, show_sheet, Axis, Layer, UNUSED};
 use std::process::ExitCode;
 use std::time::{Duration, Instant};
 
@@ -65,6 +65,12 @@ const CASES: &[Case] = &[
     (MaxPool, [16, 128, 128, 1, 5, 2, 1, 0], ""),
 ];
 
+/// Calls with three axes: Z, and a case with its Y, X and so on; the kernel has the same size on each axis.
+const THREE_AXES: &[(u64, Case)] = &[
+    (16, (Convolution, [4, 32, 32, 4, 3, 1, 1, 1], "")),
+    (16, (MaxPool, [16, 64, 64, 1, 2, 2, 1, 0], "")),
+];
+
 /// How often the benchmark goes over all calls: a slow phase of the machine outlasts the turns of one call, but not the whole table.
 const PASSES: usize = 4;
 
@@ -81,8 +87,8 @@ struct Measured {
 }
 
 impl Measured {
-    fn new(case: &Case) -> Self {
-        let call = call(case);
+    fn new(z: Option<u64>, case: &Case) -> Self {
+        let call = call(z, case);
         let name = name(&show_sheet(&call.layer), case);
         let runs = if case.0 == MaxPool { RUNS.len() - 1 } else { RUNS.len() };
         Measured { call, name, times: vec![f64::INFINITY; runs] }
@@ -98,10 +104,11 @@ impl Measured {
     }
 }
 
-fn layer(&(op, [c, y, x, o, kernel, stride, dilation, pads], _): &Case) -> Layer {
+fn layer(z: Option<u64>, &(op, [c, y, x, o, kernel, stride, dilation, pads], _): &Case) -> Layer {
     let axis = |size: u64| Axis { size, kernel, stride, dilation, begin: pads, end: pads, ..UNUSED };
     let i = if op == MaxPool { 1 } else { c };
-    Layer { op, axes: 2, n: 1, c, g: 1, o, i, y: axis(y), x: axis(x), auto_pad: AutoPad::Explicit, ceil: false, axis: 0 }
+    let axes = if z.is_some() { 3 } else { 2 };
+    Layer { c, o, i, spatial: [z.map_or(UNUSED, axis), axis(y), axis(x)], ..Layer::new(op, axes) }
 }
 
 /// The sheet's sizes, and the attributes that are not at their defaults.
@@ -116,8 +123,8 @@ fn name(sheet: &str, &(_, [.., stride, dilation, pads], note): &Case) -> String 
     name + note
 }
 
-fn call(case: &Case) -> Call {
-    let layer = layer(case);
+fn call(z: Option<u64>, case: &Case) -> Call {
+    let layer = layer(z, case);
     let shape = judge(layer.op, &layer).expect("a benchmark's layer is accepted");
     let mut r = Random::new(7);
     let mut tensor = |n: u64| -> Vec<f32> { (0..n).map(|_| r.range(0, 2000) as f32 / 16.0 - 60.0).collect() };
@@ -188,7 +195,8 @@ fn run() -> Vec<Measured> {
     let times = RUNS.map(|(what, _)| format!("{what}, ms")).join(" | ");
     println!("| call | taps | outputs | {times} | library / plain Rust | limit / library |");
     println!("|---|---|---|---|---|---|---|---|---|---|");
-    let mut measured: Vec<Measured> = CASES.iter().map(Measured::new).collect();
+    let three_axes = THREE_AXES.iter().map(|(z, case)| Measured::new(Some(*z), case));
+    let mut measured: Vec<Measured> = CASES.iter().map(|case| Measured::new(None, case)).chain(three_axes).collect();
     for _ in 0..PASSES {
         measured.iter_mut().for_each(measure);
     }

@@ -141,9 +141,9 @@ fn check_accepted(c: &mut Compared) {
     c.same("the values of a pooling", values, [5.0, 6.0, 8.0, 9.0, 14.0, 15.0, 17.0, 18.0]);
     c.same("the indices of a pooling", indices, [4, 5, 7, 8, 4, 5, 7, 8]);
 
-    let pooled = Shape { axes: 2, n: 3, c: 5, y: 7, x: 6 };
+    let pooled = Shape { axes: 2, n: 3, c: 5, z: 1, y: 7, x: 6 };
     c.same("shape", shape(POOL.replacen("1,2,3,3", "3,5,8,7", 1).as_bytes()), Ok(pooled));
-    c.same("the sizes of a shape", pooled.sizes(), [3, 5, 7, 6]);
+    c.same("the sizes of a shape", pooled.sizes(), [3, 5, 1, 7, 6]);
     c.same("lengths of a pooling", lengths(POOL.as_bytes()), Ok(Lengths { input: 18, kernel: 0, output: 8 }));
     c.same("lengths of a transposed convolution", lengths(trans.as_bytes()), Ok(Lengths { input: 2, kernel: 3, output: 5 }));
     let mut buffer = [7; SHEET_MAX];
@@ -151,9 +151,30 @@ fn check_accepted(c: &mut Compared) {
     let (written, rest) = buffer.split_at(POOL.len());
     c.same("the sheet that was written", written, POOL.as_bytes());
     c.same("the bytes after the sheet", rest, &[7; SHEET_MAX][POOL.len()..]);
-    c.same("plane", plane(&values, [1, 2, 2, 2], 0, 1), &[14.0, 15.0, 17.0, 18.0]);
+    c.same("plane", plane(&values, [1, 2, 1, 2, 2], 0, 1, 0), &[14.0, 15.0, 17.0, 18.0]);
     c.same("peak", peak(&[3.0, 1.0, 4.0, 1.0, 5.0, 5.0], 2), Ok(Peak { value: 5.0, row: 2, column: 0 }));
     c.same("float_mode_ok", kozamyure::float_mode_ok(), true);
+}
+
+/// Accepted calls with three axes: POOL with a depth before its rows, and a plane at each depth.
+fn check_three_axes(c: &mut Compared) {
+    let pool = POOL.replace("=1,1\n", "=1,1,1\n").replace("=0,0\n", "=0,0,0\n");
+    let pool = pool.replacen("axes=2", "axes=3", 1).replacen("1,2,3,3", "1,1,2,3,3", 1).replacen("kernel=2,2", "kernel=1,2,2", 1);
+    let (mut values, mut indices) = ([7.0; 8], [7; 8]);
+    c.same("maxpool", maxpool(pool.as_bytes(), &rising(), &mut values, &mut indices), Ok(()));
+    c.same("the values of a pooling", values, [5.0, 6.0, 8.0, 9.0, 14.0, 15.0, 17.0, 18.0]);
+    c.same("the indices of a pooling", indices, [4, 5, 7, 8, 13, 14, 16, 17]);
+    let pooled = Shape { axes: 3, n: 1, c: 1, z: 2, y: 2, x: 2 };
+    c.same("shape", shape(pool.as_bytes()), Ok(pooled));
+    c.same("lengths of a pooling", lengths(pool.as_bytes()), Ok(Lengths { input: 18, kernel: 0, output: 8 }));
+    c.same("plane", plane(&values, pooled.sizes(), 0, 0, 0), &[5.0, 6.0, 8.0, 9.0]);
+    c.same("plane", plane(&values, pooled.sizes(), 0, 0, 1), &[14.0, 15.0, 17.0, 18.0]);
+    let mut buffer = [7; SHEET_MAX];
+    c.same("rewrite", rewrite(pool.as_bytes(), &mut buffer), Ok(pool.len()));
+    c.same("the sheet that was written", &buffer[..pool.len()], pool.as_bytes());
+    let deep = Shape { axes: 3, n: 2, c: 3, z: 4, y: 5, x: 6 };
+    c.same("shape", shape(pool.replacen("1,1,2,3,3", "2,3,4,6,7", 1).as_bytes()), Ok(deep));
+    c.same("the sizes of a shape", deep.sizes(), [2, 3, 4, 5, 6]);
 }
 
 // Texts that come back more than once.
@@ -197,7 +218,7 @@ fn check_refused_operators(c: &mut Compared) {
 fn check_refused_sheets(c: &mut Compared) {
     let edited = |from: &str, to: &str| shape(POOL.replacen(from, to, 1).as_bytes());
     let convolution = |input: &str, kernel: &str| shape(sheet("convolution", input, kernel, 1).as_bytes());
-    c.refused(edited("input=1", "input=17"), "number 1: axes is not 1 or 2, or a dimension that the operator uses is outside its limit");
+    c.refused(edited("input=1", "input=17"), "number 1: axes is not 1, 2 or 3, or a dimension that the operator uses is outside its limit");
     c.refused(edited("axis=2", "axis=4"), OPERATOR);
     c.refused(convolution("1,3,2", "1,1,1,2"), "number 3: C is not G*I");
     c.refused(convolution("1,65,64", "1,1,65,64"), "number 4: more than 4,096 taps, or more than 16,777,216 elements in input or kernel");
@@ -205,7 +226,8 @@ fn check_refused_sheets(c: &mut Compared) {
     c.refused(convolution("16,1,4096", "1,1024,1,1"), "number 6: more than 16,777,216 output elements");
     c.refused(edited("pads_begin=0,0", "pads_begin=2,0"), "number 7: pooling: some window holds no element");
     c.refused(edited("axis=2\n", "axis=2\n\n"), "number 20: the sheet: a wrong key or no line end, or bytes left over (line 13); at line 13");
-    c.refused(edited("axes=2", "axes=3"), "number 21: the sheet: a number, or a count of numbers, that breaks the rules; at line 2");
+    c.refused(edited("axes=2", "axes=4"), "number 21: the sheet: a number, or a count of numbers, that breaks the rules; at line 2");
+    c.refused(edited("axes=2", "axes=3"), "number 21: the sheet: a number, or a count of numbers, that breaks the rules; at line 3");
     c.refused(edited("floor", "round"), "number 22: the sheet: an unknown word; at line 11");
     c.refused(edited("g=0,0", "g=0,1"), "number 23: the sheet: a line that its operator does not use is not at its default; at line 10");
     c.refused(lengths(b"op=pool\n"), "number 22: the sheet: an unknown word; at line 1");
@@ -223,9 +245,11 @@ fn check_refused_sheets(c: &mut Compared) {
 fn check_refused_planes(c: &mut Compared) {
     let tensor = [1.0, 2.0, f32::NAN, 4.0];
     let nothing: &[f32] = &[];
-    c.same("a plane of an image that is not there", plane(&tensor, [1, 2, 1, 2], 1, 0), nothing);
-    c.same("a plane of a tensor of another length", plane(&tensor, [1, 2, 1, 3], 0, 0), nothing);
-    c.same("a plane of an empty tensor", plane(&[], [u32::MAX; 4], u32::MAX, u32::MAX), nothing);
+    c.same("a plane of an image that is not there", plane(&tensor, [1, 2, 1, 1, 2], 1, 0, 0), nothing);
+    c.same("a plane of a channel that is not there", plane(&tensor, [1, 2, 1, 1, 2], 0, 2, 0), nothing);
+    c.same("a plane of a depth that is not there", plane(&tensor, [1, 1, 2, 1, 2], 0, 0, 2), nothing);
+    c.same("a plane of a tensor of another length", plane(&tensor, [1, 2, 1, 1, 3], 0, 0, 0), nothing);
+    c.same("a plane of an empty tensor", plane(&[], [u32::MAX; 5], u32::MAX, u32::MAX, u32::MAX), nothing);
     c.refused(peak(&tensor, 0), LENGTH);
     c.refused(peak(&tensor, 3), LENGTH);
     c.refused(peak(&[], usize::MAX), LENGTH);
@@ -241,6 +265,7 @@ fn main() {
     check_versions(&mut c, &header, &manifest);
     check_texts(&mut c, &header);
     check_accepted(&mut c);
+    check_three_axes(&mut c);
     check_refused_operators(&mut c);
     check_refused_sheets(&mut c);
     check_refused_planes(&mut c);

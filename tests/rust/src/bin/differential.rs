@@ -1,8 +1,8 @@
 //! Compares the static library with the reference on generated calls, bit for bit, buffers of refused calls included.
 //! usage: differential [CALLS] [SEED]      (100,000 calls and seed 1 by default)
 use kozamyure::answers::{self, Answer, LengthsAnswer, Part, ShapeAnswer, Written};
-use kozamyure_tests::generate::{self, Kind, Random};
-use kozamyure_tests::reference::{self, AutoPad, Layer, Op, Refusal, Shape, Sum};
+use kozamyure_tests::generate::{self, Kind, Pick, Random};
+use kozamyure_tests::reference::{self, AutoPad, Layer, Op, Refusal, Shape, Sum, X, Y, Z};
 use std::collections::{BTreeMap, BTreeSet};
 use std::process::ExitCode;
 
@@ -27,9 +27,11 @@ struct Counts {
     rows: [BTreeSet<[u64; 3]>; 2],
     peaks: u64,
     rewritten: u64,
-    planes_given: u64,
-    planes_refused: u64,
+    /// Planes, by what they are.
+    planes: BTreeMap<&'static str, u64>,
     largest: u64,
+    /// Calls with three axes, by operator and number.
+    three_axes: BTreeMap<(&'static str, u32), u64>,
     /// Tensors that were refused with 9, by what they are and how many of their elements are bad.
     bad: BTreeMap<(&'static str, &'static str), u64>,
     /// Calls of max pooling with valid and ceil, by what they are beside floor.
@@ -43,6 +45,16 @@ const VALID_CEIL: [&str; 4] = ["the same size", "a larger size", "7 in place of 
 /// What is refused with 9, and with how many bad elements: each of them with each must be seen.
 const BAD: [&str; 4] = ["input", "kernel", "input before a bad kernel", "plane"];
 const HOW_MANY: [&str; 4] = ["one", "several", "all", "some of 16,777,216"];
+
+/// What a plane is: each must be seen.
+const PLANES: [&str; 4] = ["refused", "given", "given at a depth above 0", "given of more than 16,777,216 elements"];
+
+/// The operators with the numbers that a call with three axes comes back with: each must be seen.
+const THREE_AXES: [(Op, &str, [u32; 13]); 3] = [
+    (Op::Convolution, "convolution", [0, 1, 2, 3, 4, 5, 6, 8, 9, 20, 21, 22, 23]),
+    (Op::Transposed, "transposed", [0, 1, 2, 3, 4, 5, 6, 8, 9, 20, 21, 22, 23]),
+    (Op::MaxPool, "maxpool", [0, 1, 2, 4, 5, 6, 7, 8, 9, 20, 21, 22, 23]),
+];
 
 impl Counts {
     fn fail(&mut self, what: &str, sheet: &[u8], detail: String) {
@@ -92,11 +104,34 @@ impl Counts {
 
     /// The rows of an accepted call. With one tap a dilation means nothing, so such a kernel does not count.
     fn see_rows(&mut self, l: &Layer, shape: &Shape) {
-        let row = [shape.x.out as u64, l.x.stride, l.x.dilation];
-        if l.x.kernel > 1 && row.iter().zip(ROWS).all(|(v, most)| *v <= most) {
+        let x = l.spatial[X];
+        let row = [shape.along[X].out as u64, x.stride, x.dilation];
+        if x.kernel > 1 && row.iter().zip(ROWS).all(|(v, most)| *v <= most) {
             self.rows[usize::from(l.op == Op::Transposed)].insert(row);
         }
     }
+
+    fn see_three_axes(&mut self, op: Op, number: u32) {
+        let (_, name, _) = THREE_AXES.iter().find(|(of, ..)| *of == op).expect("every operator is there");
+        *self.three_axes.entry((name, number)).or_default() += 1;
+    }
+
+    fn see_plane(&mut self, given: bool, pick: &Pick) {
+        let [refused, small, deep, large] = PLANES;
+        let what = if pick.len > LARGEST {
+            large
+        } else if pick.depth > 0 {
+            deep
+        } else {
+            small
+        };
+        *self.planes.entry(if given { what } else { refused }).or_default() += 1;
+    }
+}
+
+/// How often each was seen.
+fn times<K: Ord + Copy, const N: usize>(seen: &BTreeMap<K, u64>, each: [K; N]) -> [(K, u64); N] {
+    each.map(|what| (what, seen.get(&what).copied().unwrap_or(0)))
 }
 
 fn bits(v: &[f32]) -> Vec<u32> {
@@ -115,10 +150,11 @@ type Judged = Result<(Layer, Shape), Refusal>;
 /// The shape call: sizes of the output, or the refusal.
 fn check_shape(counts: &mut Counts, sheet: &[u8], judged: &Judged) {
     let expected = match judged {
-        Ok((l, s)) => ShapeAnswer {
-            number: 0, line: 0, axes: l.axes as u32, n: l.n as u32, c: s.channels as u32, y: s.y.out as u32, x: s.x.out as u32,
-        },
-        Err(r) => ShapeAnswer { number: r.number, line: r.line, axes: 0, n: 0, c: 0, y: 0, x: 0 },
+        Ok((l, s)) => {
+            let out = s.along.map(|a| a.out as u32);
+            ShapeAnswer { number: 0, line: 0, axes: l.axes as u32, n: l.n as u32, c: s.channels as u32, z: out[Z], y: out[Y], x: out[X] }
+        }
+        Err(r) => ShapeAnswer { number: r.number, line: r.line, axes: 0, n: 0, c: 0, z: 0, y: 0, x: 0 },
     };
     let got = answers::shape(sheet);
     if got != expected {
@@ -316,17 +352,13 @@ fn check_largest(r: &mut Random, counts: &mut Counts) {
 fn check_plane(r: &mut Random, counts: &mut Counts) {
     let pick = generate::pick(r);
     let tensor = vec![0.0; pick.len];
-    let found = reference::pick_plane(pick.len, pick.sizes, pick.image, pick.channel);
-    if found.is_some() {
-        counts.planes_given += 1;
-    } else {
-        counts.planes_refused += 1;
-    }
+    let found = reference::pick_plane(pick.len, pick.sizes, pick.image, pick.channel, pick.depth);
+    counts.see_plane(found.is_some(), &pick);
     // A refusal is the empty part at the start of the tensor.
     let expected = found.clone().and_then(|p| tensor.get(p)).unwrap_or(&tensor[..0]);
     let part = found.map_or(Part { start: 0, length: 0 }, |p| Part { start: p.start, length: p.len() });
-    let got = answers::plane(&tensor, pick.sizes, pick.image, pick.channel);
-    let plane = kozamyure::plane(&tensor, pick.sizes, pick.image, pick.channel);
+    let got = answers::plane(&tensor, pick.sizes, pick.image, pick.channel, pick.depth);
+    let plane = kozamyure::plane(&tensor, pick.sizes, pick.image, pick.channel, pick.depth);
     if got != part || !std::ptr::eq(plane, expected) {
         let slices = format!("a slice of {} at {:p} in a tensor at {:p}", plane.len(), plane.as_ptr(), tensor.as_ptr());
         counts.fail("plane", b"", format!("{got:?} and {slices}, expected {part:?} for {pick:?}"));
@@ -355,13 +387,13 @@ fn one_call(r: &mut Random, counts: &mut Counts) {
     if r.chance(8) {
         check_plane(r, counts);
     }
-    // The operator of the sheet, seldom another.
-    let own = read.map_or(layer.op, |l| l.op);
-    call_operator(r, counts, &sheet, &read, own);
+    call_operator(r, counts, &sheet, &read, &layer);
 }
 
-/// A call of an operator with the sheet, unless its tensors are too large to compute often.
-fn call_operator(r: &mut Random, counts: &mut Counts, sheet: &[u8], read: &Result<Layer, Refusal>, own: Op) {
+/// A call of an operator with the sheet that was made of a layer, unless its tensors are too large to compute often.
+fn call_operator(r: &mut Random, counts: &mut Counts, sheet: &[u8], read: &Result<Layer, Refusal>, made_of: &Layer) {
+    // The operator of the sheet, seldom another.
+    let Layer { op: own, axes, .. } = read.unwrap_or(*made_of);
     let op = if r.chance(30) { r.pick(&[Op::Convolution, Op::Transposed, Op::MaxPool]) } else { own };
     let shape = read.ok().and_then(|l| reference::judge(op, &l).ok());
     let (inputs, weights, outputs) = shape.map_or((3, 2, 4), |s| (s.inputs, s.weights, s.outputs));
@@ -393,6 +425,9 @@ fn call_operator(r: &mut Random, counts: &mut Counts, sheet: &[u8], read: &Resul
         _ => check_convolution(r, counts, op, &call),
     };
     *counts.by_number.entry(number).or_default() += 1;
+    if axes == 3 {
+        counts.see_three_axes(op, number);
+    }
 }
 
 /// Whether each number came back often enough.
@@ -410,54 +445,59 @@ fn report_numbers(counts: &Counts, made: u64) -> bool {
     often
 }
 
-/// Whether both convolutions met all rows, as a long run must. Pads and output padding fit an input to every row, so that none is impossible.
+/// Whether all of a kind were met, as in a long run they must be.
+fn met(all: bool, kind: &str, made: u64) -> bool {
+    let missed = made >= LONG_RUN && !all;
+    if missed {
+        println!("some {kind} were not met");
+    }
+    !missed
+}
+
+/// Whether both convolutions met all rows. Pads and output padding fit an input to every row, so that none is impossible.
 fn report_rows(counts: &Counts, made: u64) -> bool {
     let [out, stride, dilation] = ROWS;
     let all = (out * stride * dilation) as usize;
     let [convolution, transposed] = counts.rows.each_ref().map(BTreeSet::len);
     print!("rows of 1 to {out} outputs, strides 1 to {stride}, dilations 1 to {dilation}: ");
     println!("{convolution} of {all} seen by convolution, {transposed} of {all} by transposed");
-    if made >= LONG_RUN && (convolution < all || transposed < all) {
-        println!("some rows were not met");
-        return false;
-    }
-    true
+    met(convolution == all && transposed == all, "rows", made)
 }
 
-/// Whether planes were both given and refused, as in a long run they must be.
+/// Whether planes were refused and given, at depths and of large tensors too.
 fn report_planes(counts: &Counts, made: u64) -> bool {
-    let met = counts.planes_given > 0 && counts.planes_refused > 0;
-    if made >= LONG_RUN && !met {
-        println!("no plane was given, or none was refused");
-        return false;
-    }
-    true
+    let seen = times(&counts.planes, PLANES);
+    println!("planes: {}", seen.map(|(what, n)| format!("{what} {n}")).join(", "));
+    met(seen.iter().all(|(_, n)| *n > 0), "planes", made)
 }
 
-/// Whether each tensor was refused with one, several and all elements bad, small and as large as can be, as in a long run it must be.
+/// Whether each operator was met with three axes and all its numbers.
+fn report_three_axes(counts: &Counts, made: u64) -> bool {
+    let mut all = true;
+    for (_, name, numbers) in THREE_AXES {
+        let seen = times(&counts.three_axes, numbers.map(|number| (name, number)));
+        println!("numbers seen with three axes, {name}: {}", seen.map(|((_, number), n)| format!("{number}: {n}")).join(", "));
+        all &= seen.iter().all(|(_, n)| *n > 0);
+    }
+    met(all, "calls with three axes", made)
+}
+
+/// Whether each tensor was refused with one, several and all elements bad, small and as large as can be.
 fn report_bad(counts: &Counts, made: u64) -> bool {
-    let mut met = true;
+    let mut all = true;
     for what in BAD {
-        let seen = HOW_MANY.map(|how_many| (how_many, counts.bad.get(&(what, how_many)).copied().unwrap_or(0)));
-        println!("refused with 9, {what}: {}", seen.map(|(how_many, n)| format!("{how_many} bad {n}")).join(", "));
-        met &= seen.iter().all(|(_, n)| *n > 0);
+        let seen = times(&counts.bad, HOW_MANY.map(|how_many| (what, how_many)));
+        println!("refused with 9, {what}: {}", seen.map(|((_, how_many), n)| format!("{how_many} bad {n}")).join(", "));
+        all &= seen.iter().all(|(_, n)| *n > 0);
     }
-    if made >= LONG_RUN && !met {
-        println!("some bad tensors were not met");
-        return false;
-    }
-    true
+    met(all, "bad tensors", made)
 }
 
-/// Whether valid with ceil was met with all that it can be beside floor, as in a long run it must be.
+/// Whether valid with ceil was met with all that it can be beside floor.
 fn report_valid_ceil(counts: &Counts, made: u64) -> bool {
-    let seen = VALID_CEIL.map(|what| (what, counts.valid_ceil.get(what).copied().unwrap_or(0)));
+    let seen = times(&counts.valid_ceil, VALID_CEIL);
     println!("valid with ceil beside floor: {}", seen.map(|(what, n)| format!("{what} {n}")).join(", "));
-    if made >= LONG_RUN && seen.iter().any(|(_, n)| *n == 0) {
-        println!("some calls of valid with ceil were not met");
-        return false;
-    }
-    true
+    met(seen.iter().all(|(_, n)| *n > 0), "calls of valid with ceil", made)
 }
 
 fn main() -> ExitCode {
@@ -473,17 +513,13 @@ fn main() -> ExitCode {
     check_largest(&mut r, &mut counts);
     println!("{made} calls and {} with the largest tensors", counts.largest);
     println!("{} outputs, {} of them whole, {} in the exact case", counts.outputs, counts.whole, counts.exact);
-    print!("{} peaks, {} sheets written back, ", counts.peaks, counts.rewritten);
-    println!("{} planes given, {} planes refused", counts.planes_given, counts.planes_refused);
-    let numbers_seen = report_numbers(&counts, made);
-    let rows_seen = report_rows(&counts, made);
-    let planes_seen = report_planes(&counts, made);
-    let bad_seen = report_bad(&counts, made);
-    let valid_ceil_seen = report_valid_ceil(&counts, made);
+    println!("{} peaks, {} sheets written back", counts.peaks, counts.rewritten);
+    let reports = [report_numbers, report_rows, report_planes, report_bad, report_valid_ceil, report_three_axes];
+    let all_seen = reports.map(|report| report(&counts, made)).iter().all(|seen| *seen);
     if counts.failures > 0 {
         println!("{} comparisons FAILED", counts.failures);
     }
-    if !numbers_seen || !rows_seen || !planes_seen || !bad_seen || !valid_ceil_seen || counts.failures > 0 {
+    if !all_seen || counts.failures > 0 {
         return ExitCode::FAILURE;
     }
     println!("all agree");

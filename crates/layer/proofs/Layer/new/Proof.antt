@@ -1,4 +1,4 @@
--- `Layer::new` meets its contract: both axes are at their default.
+-- `Layer::new` meets its contract: every axis is at its default.
 use borrow.Author.Needs.{needs}
 use Rattle.layer.proofs.Layer.new.Statement.{statement}
 use Rattle.layer.proofs.Layer.new.Tie as tie
@@ -7,4 +7,4 @@ returns : tie.Need-returns
 returns c = cc
 
 pub new-spec : {M : Type 1} → statement M
-new-spec = tie.close (tie.spec (λ c κs. search needs) (λ c κs. search needs) returns)
+new-spec = tie.close (tie.spec (λ c κs. search needs) (λ c κs. search needs) (λ c κs. search needs) returns)
