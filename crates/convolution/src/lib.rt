@@ -37,10 +37,11 @@ struct FirstTap {
     row: u32,
 }
 
-// A kernel row: its channel among those of its group, and its row in that channel's kernel.
+// A kernel row: its channel among those of its group, its row in that channel's kernel, and its number among the rows of all channels.
 struct KernelRow {
     channel: usize,
     row: usize,
+    number: usize,
 }
 
 // The part of the input that is the row of a plane at which a tap lies: empty outside the input.
@@ -57,24 +58,31 @@ fn row_part(input: &[f32], plane: usize, height: usize, width: usize, tap: Tap) 
     &input[start..end]
 }
 
-// The row of the input under kernel row k of channel i, for the outputs with these first taps: empty outside the input.
-fn values_of(s: Shape, input: &[f32], f: FirstTap, i: usize, k: usize) -> &[f32]
+// The row of the input under a kernel row, for the outputs with these first taps: empty outside the input.
+fn values_of(s: Shape, input: &[f32], f: FirstTap, at: KernelRow) -> &[f32]
     requires { ⌜ Grouped s × (length (now input) ≡ s .inputs) ⌝ }
-    requires { ⌜ Within s f × ((i < s .i) × (k < kernelRows s)) ⌝ }
-    ensures { λ v. ⌜ now v ≡ valuesOf s (now (input .entry)) f i k ⌝ }
+    requires { ⌜ Within s f × ((at .channel < s .i) × (at .row < kernelRows s)) ⌝ }
+    ensures { λ v. ⌜ now v ≡ valuesOf s (now (input .entry)) f (at .channel) (at .row) ⌝ }
 {
-    let tap = row_tap(Direction::Forward, s, f.row, k as u32);
-    row_part(input, f.plane + i, input_rows(s), s.x.input as usize, tap)
+    let tap = row_tap(Direction::Forward, s, f.row, at.row as u32);
+    row_part(
+        input,
+        f.plane + at.channel,
+        input_rows(s),
+        s.x.input as usize,
+        tap,
+    )
 }
 
 // The weights of that kernel row.
-fn weights_of(s: Shape, kernel: &[f32], f: FirstTap, i: usize, k: usize) -> &[f32]
+fn weights_of(s: Shape, kernel: &[f32], f: FirstTap, at: KernelRow) -> &[f32]
     requires { ⌜ Grouped s × (length (now kernel) ≡ s .weights) ⌝ }
-    requires { ⌜ Within s f × ((i < s .i) × (k < kernelRows s)) ⌝ }
-    ensures { λ v. ⌜ now v ≡ weightsOf s (now (kernel .entry)) f i k ⌝ }
+    requires { ⌜ Within s f × ((at .channel < s .i) × (at .row < kernelRows s)) ⌝ }
+    requires { ⌜ at .number ≡ at .channel * kernelRows s + at .row ⌝ }
+    ensures { λ v. ⌜ now v ≡ weightsOf s (now (kernel .entry)) f (at .channel) (at .row) ⌝ }
 {
     let taps = s.x.kernel as usize;
-    let start = f.weight + (i * kernel_rows(s) + k) * taps;
+    let start = f.weight + at.number * taps;
     let end = start + taps;
     &kernel[start..end]
 }
@@ -97,42 +105,44 @@ fn first_tap(s: Shape, line: usize) -> FirstTap
 
 // The kernel row after this one, where each channel has `rows`.
 fn next_row(at: KernelRow, rows: usize) -> KernelRow
-    requires { ⌜ (at .row < rows) × (at .channel * rows + at .row < 4096) ⌝ }
-    ensures { λ r. ⌜ (r .row < rows) × (r .channel * rows + r .row ≡ at .channel * rows + at .row + 1) ⌝ }
+    requires { ⌜ (at .row < rows) × ((at .channel * rows + at .row ≡ at .number) × (at .number < 4096)) ⌝ }
+    ensures { λ r. ⌜ (r .row < rows) × ((r .channel * rows + r .row ≡ r .number) × (r .number ≡ at .number + 1)) ⌝ }
 {
     let row = at.row + 1;
+    let number = at.number + 1;
     if row < rows {
         return KernelRow {
             channel: at.channel,
             row,
+            number,
         };
     }
     KernelRow {
         channel: at.channel + 1,
         row: 0,
+        number,
     }
 }
 
 // ---- one output after another
 
-// The sum so far, and then the taps of kernel row k of channel i, of which the first lies at column q.
+// The sum so far, and then the taps of a kernel row, of which the first lies at column q.
 fn add_row(
     s: Shape,
     input: &[f32],
     kernel: &[f32],
     f: FirstTap,
-    i: usize,
-    k: usize,
+    at: KernelRow,
     q: usize,
     sum: f32,
 ) -> f32
     requires { ⌜ Fitting s (now input) (now kernel) ⌝ }
-    requires { ⌜ Within s f × ((i < s .i) × (k < kernelRows s)) ⌝ }
-    requires { ⌜ q ≤ lastFirstTap ⌝ }
-    ensures { λ v. ⌜ v ≡ sumFrom sum (λ x. tapAt (now (input .entry)) (now (kernel .entry)) (placeFrom s f q ((i * kernelRows s + k) * s .x .kernel + x))) (s .x .kernel) ⌝ }
+    requires { ⌜ Within s f × ((at .channel < s .i) × (at .row < kernelRows s)) ⌝ }
+    requires { ⌜ (at .number ≡ at .channel * kernelRows s + at .row) × (q ≤ lastFirstTap) ⌝ }
+    ensures { λ v. ⌜ v ≡ sumFrom sum (λ x. tapAt (now (input .entry)) (now (kernel .entry)) (placeFrom s f q ((at .channel * kernelRows s + at .row) * s .x .kernel + x))) (s .x .kernel) ⌝ }
 {
-    let row = values_of(s, input, f, i, k);
-    let weights = weights_of(s, kernel, f, i, k);
+    let row = values_of(s, input, f, at);
+    let weights = weights_of(s, kernel, f, at);
     let dilation = s.x.dilation as usize;
     let begin = s.x.begin as usize;
     kernel_row_sum(sum, row, weights, q, dilation, begin)
@@ -147,13 +157,15 @@ fn add_rows(s: Shape, input: &[f32], kernel: &[f32], f: FirstTap, q: usize, star
     let rows = kernel_rows(s);
     let total = s.i * rows;
     let mut sum = start;
-    let mut at = KernelRow { channel: 0, row: 0 };
-    let mut r = 0;
-    while r < total {
-        sum = add_row(s, input, kernel, f, at.channel, at.row, q, sum);
+    let mut at = KernelRow {
+        channel: 0,
+        row: 0,
+        number: 0,
+    };
+    while at.number < total {
+        sum = add_row(s, input, kernel, f, at, q, sum);
         let next = next_row(at, rows);
         at = next;
-        r += 1;
     }
     sum
 }
@@ -174,24 +186,23 @@ fn add_line_each(s: Shape, input: &[f32], kernel: &[f32], f: FirstTap, out: &mut
 
 // ---- a row of outputs, side by side
 
-// The taps of kernel row k of channel i more for each of some outputs of the row with these first taps. That of the first of them lies at column q.
+// The taps of a kernel row more for each of some outputs of the row with these first taps. That of the first of them lies at column q.
 fn add_row_across(
     s: Shape,
     input: &[f32],
     kernel: &[f32],
     f: FirstTap,
-    i: usize,
-    k: usize,
+    at: KernelRow,
     q: usize,
     out: &mut [f32],
 )
     requires { ⌜ Fitting s (now input) (now kernel) ⌝ }
-    requires { ⌜ Within s f × ((i < s .i) × (k < kernelRows s)) ⌝ }
-    requires { ⌜ (q ≤ 1040) × (length (now out) ≤ s .x .out) ⌝ }
-    ensures { λ _. ⌜ Summed (λ x t. tapAt (now (input .entry)) (now (kernel .entry)) (placeFrom s f (q + x * s .x .stride) ((i * kernelRows s + k) * s .x .kernel + t))) (s .x .kernel) (length (now (out .entry))) (now (out .entry)) (now (out .exit)) ⌝ }
+    requires { ⌜ Within s f × ((at .channel < s .i) × (at .row < kernelRows s)) ⌝ }
+    requires { ⌜ (at .number ≡ at .channel * kernelRows s + at .row) × ((q ≤ 1040) × (length (now out) ≤ s .x .out)) ⌝ }
+    ensures { λ _. ⌜ Summed (λ x t. tapAt (now (input .entry)) (now (kernel .entry)) (placeFrom s f (q + x * s .x .stride) ((at .channel * kernelRows s + at .row) * s .x .kernel + t))) (s .x .kernel) (length (now (out .entry))) (now (out .entry)) (now (out .exit)) ⌝ }
 {
-    let row = values_of(s, input, f, i, k);
-    let weights = weights_of(s, kernel, f, i, k);
+    let row = values_of(s, input, f, at);
+    let weights = weights_of(s, kernel, f, at);
     let begin = s.x.begin as usize;
     let stride = s.x.stride as usize;
     let dilation = s.x.dilation as usize;
@@ -206,14 +217,16 @@ fn add_rows_across(s: Shape, input: &[f32], kernel: &[f32], f: FirstTap, q: usiz
     ensures { λ _. ⌜ Summed (λ x t. tapAt (now (input .entry)) (now (kernel .entry)) (placeFrom s f (q + x * s .x .stride) t)) (s .taps) (length (now (out .entry))) (now (out .entry)) (now (out .exit)) ⌝ }
 {
     let rows = kernel_rows(s);
-    let total = s.i * rows;
-    let mut at = KernelRow { channel: 0, row: 0 };
-    let mut done = 0;
-    while done < total {
-        add_row_across(s, input, kernel, f, at.channel, at.row, q, out);
+    let count = s.i * rows;
+    let mut at = KernelRow {
+        channel: 0,
+        row: 0,
+        number: 0,
+    };
+    while at.number < count {
+        add_row_across(s, input, kernel, f, at, q, out);
         let next = next_row(at, rows);
         at = next;
-        done += 1;
     }
 }
 

@@ -16,10 +16,14 @@ kernelRows s = s .z .kernel * s .y .kernel
 unfoldable pub outRows : Shape → ℕ
 outRows s = s .z .out * s .y .out
 
+-- two axes as one, y the inner
+abbrev pub onDepths : (Span → ℕ → ℕ → Tap) → Span → Span → ℕ → ℕ → Tap
+onDepths f z y p k = both (y .input) (f z (p / y .out) (k / y .kernel)) (f y (p % y .out) (k % y .kernel))
+
 -- the row of the input at which kernel row k of output row p lies: `f` is `forward` (convolution, pooling) or `backward` (transposed); "likewise for depths",
 -- "and likewise for z"
 unfoldable pub onRows : (Span → ℕ → ℕ → Tap) → Shape → ℕ → ℕ → Tap
-onRows f s p k = both (s .y .input) (f (s .z) (p / s .y .out) (k / s .y .kernel)) (f (s .y) (p % s .y .out) (k % s .y .kernel))
+onRows f s p k = onDepths f (s .z) (s .y) p k
 
 -- ---- positions of a plane: "Row-major, last axis fastest."
 abbrev pub inputVolume : Shape → ℕ

@@ -1,7 +1,5 @@
 // Checks 1 to 7 of a layer, and what an accepted layer tells an operator.
 use counts::modulus_of;
-use counts::quotient;
-use counts::remainder;
 use counts::times;
 use counts::volume;
 use layer::AutoPad;
@@ -32,7 +30,7 @@ use sizes::mode_ok;
 use sizes::size_axis;
 use sizes::some_missed;
 use sizes::tap_on;
-ghost use Prim.Native.Nat.{_*_, _≤_, _^_};
+ghost use Prim.Native.Nat.{_*_, _/_, _%_, _≤_, _^_};
 ghost use mathlib.Core.Path.{_≡_};
 ghost use mathlib.Core.Bool.{not, _&&_};
 ghost use Rattle.layer.specs.Kinds.{isPool};
@@ -40,7 +38,7 @@ ghost use Rattle.sizes.specs.Bounds.{SpanLimits};
 ghost use Rattle.sizes.specs.Joins.{tapOn, both, Below};
 ghost use Rattle.counts.specs.Counts.{capped};
 ghost use Rattle.shape.specs.Counts.{inputCount, kernelCount, tapCount, outputChannels, modulusOf, shapeWith};
-ghost use Rattle.shape.specs.Volumes.{inputRows, kernelRows, outRows, onRows};
+ghost use Rattle.shape.specs.Volumes.{inputRows, kernelRows, outRows, onDepths, onRows};
 ghost use Rattle.shape.specs.Windows.{someEmpty};
 ghost use Rattle.shape.specs.Checks.{groupsWithin, axisWithin, dimensionsOk, padsAtDefault, axisAtDefault, axisFieldsOk, axesOk, poolingOk, notPoolingOk, unusedOk, attributesOk, groupsOk, countsOk};
 ghost use Rattle.shape.specs.Judge.{judged};
@@ -361,27 +359,34 @@ fn both(size: u32, outer: Tap, inner: Tap) -> Tap
     Tap::At(a * size as usize + b)
 }
 
-// A row's number taken apart into depth and row.
-fn folded_tap(d: Direction, s: Shape, p: u32, k: u32) -> Tap
-    ensures { λ r. ⌜ r ≡ onRows (tapOn d) s p k ⌝ }
+// The position on the outer and on the inner of two axes of a number along both.
+struct Parts {
+    outer: u32,
+    inner: u32,
+}
+
+// A number taken apart, the inner axis having so many positions: without a division where it lies in the first of the outer axis.
+fn taken_apart(n: u32, size: u32) -> Parts
+    ensures { λ r. ⌜ (r .outer ≡ n / size) × (r .inner ≡ n % size) ⌝ }
 {
-    let out = s.y.out as usize;
-    let kernel = s.y.kernel as usize;
-    let row = p as usize;
-    let tap = k as usize;
-    let outer = tap_on(
-        d,
-        s.z,
-        quotient(row, out) as u32,
-        quotient(tap, kernel) as u32,
-    );
-    let inner = tap_on(
-        d,
-        s.y,
-        remainder(row, out) as u32,
-        remainder(tap, kernel) as u32,
-    );
-    both(s.y.input, outer, inner)
+    if (n < size) | (size == 0) {
+        return Parts { outer: 0, inner: n };
+    }
+    Parts {
+        outer: n / size,
+        inner: n % size,
+    }
+}
+
+// Two axes as one: where a tap of both lies.
+fn folded_tap(d: Direction, z: Span, y: Span, p: u32, k: u32) -> Tap
+    ensures { λ r. ⌜ r ≡ onDepths (tapOn d) z y p k ⌝ }
+{
+    let row = taken_apart(p, y.out);
+    let tap = taken_apart(k, y.kernel);
+    let outer = tap_on(d, z, row.outer, tap.outer);
+    let inner = tap_on(d, y, row.inner, tap.inner);
+    both(y.input, outer, inner)
 }
 
 // The row of the input at which kernel row k of output row p lies, in either direction. A row of the first depth, which is all that one or two axes have, is
@@ -393,5 +398,5 @@ pub fn row_tap(d: Direction, s: Shape, p: u32, k: u32) -> Tap
     if first {
         return tap_on(d, s.y, p, k);
     }
-    folded_tap(d, s, p, k)
+    folded_tap(d, s.z, s.y, p, k)
 }

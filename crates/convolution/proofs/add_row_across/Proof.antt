@@ -13,23 +13,23 @@ values-of-requires : tie.Need-values-of-requires
 values-of-requires c κs = let a = c .before .before .before in ((a .pre .0 .shape, a .pre .0 .input-length), a .pre .1 .0)
 
 weights-of-requires : tie.Need-weights-of-requires
-weights-of-requires c κs = let a = c .before .before .before .before in ((a .pre .0 .shape, a .pre .0 .kernel-length), a .pre .1 .0)
+weights-of-requires c κs = let a = c .before .before .before .before in ((a .pre .0 .shape, a .pre .0 .kernel-length), (a .pre .1 .0, a .pre .1 .1 .0))
 
 limits : (c : tie.After-weights-of) → let a = c .before .before .before .before .before .args in let x = a .s .x in
     RowLimited (x .begin) (x .stride) (x .dilation) (a .q) (length (now (c .before .values-of .result))) (length (now (c .weights-of .result))) (length (now (a .out)))
 limits c =
     let a = c .before .before .before .before .before in
     let x = a .pre .0 .shape .sound .x in
-    let n = row-weights (a .args .s) (now (a .args .input)) _ (a .args .f) (a .args .i) (a .args .k) _ _ (c .before .values-of .ensures) (c .weights-of .ensures) (a .pre .0) (a .pre .1 .0 .0) (a .pre .1 .0 .1 .0) (a .pre .1 .0 .1 .1) in
+    let n = row-weights (a .args .s) (now (a .args .input)) _ (a .args .f) (a .args .at .channel) (a .args .at .row) _ _ (c .before .values-of .ensures) (c .weights-of .ensures) (a .pre .0) (a .pre .1 .0 .0) (a .pre .1 .0 .1 .0) (a .pre .1 .0 .1 .1) in
     record {
       stride-1 = x .stride-1;
       stride-16 = x .stride-16;
       begin-max = x .begin-1024;
       dilation-max = x .dilation-16;
-      q-max = a .pre .1 .1 .0;
+      q-max = a .pre .1 .1 .1 .0;
       len-max = rw (c .before .values-of .ensures) (row-length (now (a .args .input)) _ _ _ _ (x .input-4096));
       taps-max = omega (arith, n, x .kernel-64);
-      n-max = omega (arith, a .pre .1 .1 .1, x .out-66544);
+      n-max = omega (arith, a .pre .1 .1 .1 .1, x .out-66544);
     }
 
 returns : tie.Need-returns
@@ -38,7 +38,7 @@ returns c =
     let a = w .before .before .before .before .before in
     let x = a .args .s .x in
     let e = within-row (x .begin) (x .stride) (x .dilation) (a .args .q) _ _ _ (limits w) in
-    line-taps (a .args .s) _ _ (a .args .f) (a .args .i) (a .args .k) _ _ (w .before .values-of .ensures) (w .weights-of .ensures) (a .pre .0) (a .pre .1 .0 .0) (a .pre .1 .0 .1 .0) (a .pre .1 .0 .1 .1) (a .args .q) (rw e at (c .before .before .add-across .ensures))
+    line-taps (a .args .s) _ _ (a .args .f) (a .args .at .channel) (a .args .at .row) _ _ (w .before .values-of .ensures) (w .weights-of .ensures) (a .pre .0) (a .pre .1 .0 .0) (a .pre .1 .0 .1 .0) (a .pre .1 .0 .1 .1) (a .args .q) (rw e at (c .before .before .add-across .ensures))
 
 pub add-row-across-spec : {M : Type 1} → statement M
 add-row-across-spec =
