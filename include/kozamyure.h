@@ -14,7 +14,7 @@
  * The contracts do not tell one NaN from another. A call leaves none in an output that it writes; one that stood there before a refused call stays.
  *
  * The library has no state and calls nothing, neither libc nor a heap: every function may be called from several threads and from a signal handler. It takes
- * less than 2,048 bytes of stack.
+ * less than 3,072 bytes of stack.
  */
 #ifndef KOZAMYURE_H
 #define KOZAMYURE_H

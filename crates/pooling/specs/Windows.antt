@@ -1,5 +1,5 @@
--- The window of each output: "Pooling: taps as for convolution, in each plane; taps outside the input are no elements. A window holds either nothing, or a
--- best value with its place."
+-- The window of each output: "Pooling: taps as for convolution, in each channel of each image; taps outside the input are no elements". "A window holds either
+-- nothing, or a best value with its place."
 use Prim.Native.Nat.{ℕ, zero, suc, _+_, _*_, _/_, _%_}
 use mathlib.Core.List.{List, [], _∷_, _++_}
 use lib.Ieee.{Float}
@@ -22,8 +22,8 @@ unfoldable pub overTaps : (ℕ → Tap) → (ℕ → List ℕ) → ℕ → List 
 overTaps tap f zero = []
 overTaps tap f (suc k) = overTaps tap f k ++ atTap f (tap k)
 
--- The places in the input of the elements of the window of output number j of [N, C, OY, OX], "by ky then kx": the kernel's positions, row-major. "in each
--- plane": pooling keeps image and channel.
+-- The places in the input of the elements of the window of output number j of [N, C, OZ, OY, OX], "by kz, then ky, then kx": the kernel's positions, row-major.
+-- "in each channel of each image": pooling keeps image and channel.
 abbrev pub windowPlaces : Shape → ℕ → List ℕ
 windowPlaces s j = overTaps (onPlane forward s (j % outVolume s)) (λ q. (j / outVolume s * inputVolume s + q) ∷ []) (kernelVolume s)
 

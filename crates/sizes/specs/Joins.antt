@@ -11,7 +11,7 @@ use Rattle.sizes.specs.declared.Tap.the-variants.{Outside, At}
 use Rattle.sizes.specs.Taps.{tapPosition, tapInside}
 
 -- Tap k joins the positions p and q of an axis where p·stride + k·dilation = q + begin.
--- "Tap ky lies at input row y·s - begin + ky·d, likewise for columns.": p is the output's y, q the input row.
+-- "Tap ky lies at input row y·s - begin + ky·d, likewise for depths and columns": p is the output's y, q the input row.
 -- "those taps where y + begin - ky·d = iy·s": p is the input's iy, q the output's y.
 abbrev pub joins : Span → ℕ → ℕ → ℕ → Bool
 joins s p k q = eqb (tapPosition (s .stride) (s .dilation) p k) (q + s .begin)

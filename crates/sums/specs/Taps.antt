@@ -5,7 +5,7 @@ use lib.Ieee.{Float, binary32, add, mul}
 use Rattle.tensor.specs.Table.{read, plusZero, tabulate}
 
 -- Where a tap of an output finds its two factors, by flat places in the input and in the kernel.
--- `missing`: "for those taps where y + begin - ky·d = iy·s with iy inside the input, and likewise for x" (transposed); another tap takes no part.
+-- `missing`: "for those taps where y + begin - ky·d = iy·s with iy inside the input, and likewise for z and x" (transposed); another tap takes no part.
 -- `outside`: "A tap outside the input has the value +0 and takes part" (convolution); it has a weight alone.
 -- `at`: "adds input·weight for each tap": the place of the input's element and the place of the weight.
 pub data Place : Type 0 where
@@ -39,8 +39,8 @@ sumFrom start taps (suc n) = addTap (sumFrom start taps n) (taps n)
 abbrev pub tapsOf : (ℕ → ℕ → Place) → List Float → List Float → ℕ → ℕ → Factors
 tapsOf place input kernel j t = tapAt input kernel (place j t)
 
--- "output (n, group g, o, y, x) starts at +0 and adds input·weight for each tap"; transposed: "output (n, g, o, y, x) starts at +0 and adds", "Positions no tap
--- reaches are +0.": output j, of k taps
+-- "output (n, group g, o, z, y, x) starts at +0 and adds input·weight for each tap"; transposed: "output (n, g, o, z, y, x) starts at +0 and adds", "Positions no
+-- tap reaches are +0.": output j, of k taps
 unfoldable pub outputOf : (ℕ → ℕ → Place) → ℕ → List Float → List Float → ℕ → Float
 outputOf place k input kernel j = sumFrom plusZero (tapsOf place input kernel j) k
 

@@ -51,7 +51,7 @@ distance a b = natAbs (a -ℤ b)
 abbrev pub small : Float → Bool
 small x = isWhole x && leb (natAbs (value x)) 4096
 
--- Demand 3 for one output, which the call leaves as r. "K is I·KY·KX, also where fewer taps reach an output": k counts the taps that take no part too.
+-- Demand 3 for one output, which the call leaves as r. "K is I·KZ·KY·KX, also where fewer taps reach an output": k counts the taps that take no part too.
 -- The output is a whole number; its distance from the exact sum is at most (K - 1)(K + 2)/2; where the magnitudes total at most 16,777,216 it is the
 -- exact sum.
 pub record WholeSum (taps : ℕ → Factors) (k : ℕ) (r : Float) : Type 0 where
