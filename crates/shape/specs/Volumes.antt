@@ -1,5 +1,5 @@
 -- The axes of a plane as one. A plane is all that one image has in one channel, with three axes all its depths (the plane picker hands back one of them). All
--- axes but the last are folded into rows, so that the operators know rows and columns alone; how many axes there are is said here and nowhere else.
+-- axes but the last are folded into rows, here and nowhere else, so that the operators know rows and columns alone.
 use Prim.Native.Nat.{ℕ, _+_, _*_, _/_, _%_}
 use Rattle.sizes.specs.declared.Span.{Span}
 use Rattle.sizes.specs.declared.Tap.{Tap}
