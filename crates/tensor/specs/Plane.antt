@@ -23,8 +23,8 @@ hasPlane len n c z y x image channel depth =
 abbrev pub planeStart : ℕ → ℕ → ℕ → ℕ → ℕ → ℕ → ℕ → ℕ
 planeStart c z y x image channel depth = ((image * c + channel) * z + depth) * (y * x)
 
--- "the plane of rows and columns there is handed back as that part of the caller's own slice; it is the empty part, its one refusal and without a number":
--- where the part begins and how long it is, in elements. The empty part begins where the slice does.
+-- "the plane is handed back as that part of the caller's own slice, the rows and columns at that depth; it is the empty part, its one refusal and without a
+-- number": where the part begins and how long it is, in elements. The empty part begins where the slice does.
 abbrev pub partOf : ℕ → ℕ → ℕ → ℕ → ℕ → ℕ → ℕ → ℕ → ℕ → Part
 partOf len n c z y x image channel depth =
     cond (hasPlane len n c z y x image channel depth) (record { start = planeStart c z y x image channel depth; length = y * x }) (record { start = 0; length = 0 })
