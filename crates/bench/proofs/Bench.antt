@@ -31,7 +31,7 @@ a and b = (a, b)
 pub bench : All Holds benchCases
 unfolding ceilDiv dilatedKernel validOut sameOut sameTotal transposedOut anyBelow axisDimensionsOk axisAttributesOk forward positionBy reachOf backward both isAt modulus inputRows kernelRows outRows onRows onPlane windowEmpty someEmpty dimensionsOk axisAtDefault axesOk poolingOk notPoolingOk unusedOk attributesOk countsOk fitsOk outputOk windowsOk judged tabulate elementOk firstBad badCount elementCheck bestOf tapAt addTap sumFrom outputOf isWhole value product total magnitudes elementsVerdict verdict answerIn leaves placed placeOf reached transposedPlaceOf overTaps windowOf add mul lt ofInt
 bench =
-    refl and refl and refl and refl and refl and refl and refl and refl
+    refl and refl and refl and refl and refl and refl and refl and refl and refl
     and record { answer = refl; values = refl; indices = refl }
     and record { answer = refl; values = refl; indices = refl }
     and record { answer = refl; contents = refl }
@@ -44,6 +44,7 @@ bench =
     and record { answer = refl; contents = refl }
     and record { answer = refl; values = refl; indices = refl }
     and record { size = refl; taps = refl; window = refl }
+    and record { answer = refl; values = refl; indices = refl }
     and record { answer = refl; values = refl; indices = refl }
     and record { size = refl; taps = refl; window = refl }
     and tt

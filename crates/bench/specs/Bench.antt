@@ -26,7 +26,7 @@ use Rattle.convolution.specs.Convolution as convolution
 use Rattle.transposed.specs.Transposed as transposed
 use Rattle.pooling.specs.Windows.{windowOf}
 use Rattle.bench.specs.Sizes.{SizeCase, sizeOf, sizeCases, along, oneAxis}
-use Rattle.bench.specs.Pools.{PoolCase, Computes, unwritten, example2, example5, secondEmpty, bothOutside}
+use Rattle.bench.specs.Pools.{PoolCase, Computes, unwritten, example2, example5, secondEmpty, withoutSecond, bothOutside}
 
 -- ---- a call of a convolution, of either kind
 
@@ -156,7 +156,7 @@ spread =
       output = one ∷ one ∷ three ∷ two ∷ two ∷ [];
     }
 
--- "(B) Pool in 2, k 1, s 3, ceil, pads 0: out 2, second window empty, 7."
+-- "(B) Pool in 2, k 1, s 3, ceil, pads 0: out 2, second window empty, 7"
 abbrev pub secondWindow : WindowCase
 secondWindow = record { call = secondEmpty; size = 2; output = 1; taps = pos 3 ∷ [] }
 
@@ -164,7 +164,7 @@ secondWindow = record { call = secondEmpty; size = 2; output = 1; taps = pos 3 �
 abbrev pub firstWindow : WindowCase
 firstWindow = record { call = bothOutside; size = 3; output = 0; taps = negsuc 7 ∷ pos 8 ∷ [] }
 
--- The sizes (with the number of each layer, 7 of the last two), 002 examples 2 and 5, the sums, and the two calls that answer 7.
+-- The sizes (with the number of each layer, 7 of two), 002 examples 2 and 5, the sums, the two calls that answer 7, and the first of them with ceil_torch.
 abbrev pub benchCases : List Case
 benchCases =
     map size sizeCases
@@ -175,6 +175,7 @@ benchCases =
     ∷ sum spread
     ∷ pool secondEmpty
     ∷ window secondWindow
+    ∷ pool withoutSecond
     ∷ pool bothOutside
     ∷ window firstWindow
     ∷ [])

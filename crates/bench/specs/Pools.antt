@@ -6,12 +6,12 @@ use lib.IntN.{ℤ, pos, negsuc}
 use lib.Ieee.{Float, fin, binary32, ofInt}
 use Rattle.layer.specs.declared.Op.the-variants.{MaxPool}
 use Rattle.layer.specs.declared.AutoPad.the-variants.{Explicit, SameUpper, Valid}
-use Rattle.layer.specs.declared.Rounding.the-variants.{Floor, Ceil}
+use Rattle.layer.specs.declared.Rounding.the-variants.{Floor, Ceil, CeilTorch}
 use Rattle.layer.specs.declared.Layer.{Layer}
 use Rattle.layer.specs.declared.Answer.{Answer}
 use Rattle.layer.specs.Answers.{numbered}
 use Rattle.pooling.specs.Call.{maxPoolAnswer, maxPoolValues, maxPoolIndices}
-use Rattle.bench.specs.Sizes.{along, oneAxis, twoAxes}
+use Rattle.bench.specs.Sizes.{along, oneAxis, oneAxisAt14, twoAxes}
 
 -- What each element of a lent output is before the call of a case: 1/2, and the index -7. No call writes them in these cases, whose values are whole
 -- numbers and whose indices are not negative. So an accepted call that leaves an element unwritten shows, and so does a refused call that writes zeros.
@@ -67,7 +67,7 @@ example5 =
       indices = pos 4 ∷ pos 2 ∷ pos 7 ∷ pos 8 ∷ [];
     }
 
--- "(B) Pool in 2, k 1, s 3, ceil, pads 0: out 2, second window empty, 7." The outputs are left as they were.
+-- "(B) Pool in 2, k 1, s 3, ceil, pads 0: out 2, second window empty, 7" The outputs are left as they were.
 abbrev pub secondEmpty : PoolCase
 secondEmpty =
     record {
@@ -76,6 +76,17 @@ secondEmpty =
       answer = numbered 7;
       values = unwritten ∷ unwritten ∷ [];
       indices = unwrittenIndex ∷ unwrittenIndex ∷ [];
+    }
+
+-- "with ceil_torch at version 14: out 1"
+abbrev pub withoutSecond : PoolCase
+withoutSecond =
+    record {
+      layer = oneAxisAt14 Explicit CeilTorch (along 2 1 3 1 0);
+      input = whole (pos 4 ∷ pos 5 ∷ []);
+      answer = numbered 0;
+      values = whole (pos 4 ∷ []);
+      indices = pos 0 ∷ [];
     }
 
 -- "Pool in 3, k 2, d 16, same_upper: taps -8 and 8, 7." The outputs are left as they were.

@@ -3,7 +3,7 @@ use text::Line;
 use text::part_of;
 use text::read_line;
 ghost use mathlib.Core.Path.{_≡_};
-ghost use Rattle.cases.specs.Lines.{valueOf, afterLine, afterLines};
+ghost use Rattle.cases.specs.Lines.{valueOf, afterLine, afterVersion, afterSheet};
 
 // The value of the line at a place, after its key; empty where there is no such line.
 pub fn value_of<'a>(s: &'a [u8], at: usize, key: &[u8]) -> &'a [u8]
@@ -27,11 +27,22 @@ pub fn after_line(s: &[u8], at: usize) -> usize
     }
 }
 
-// Where the line starts that comes after the 12 lines of a sheet.
-pub fn after_sheet(s: &[u8], at: usize) -> usize
-    ensures { λ r. ⌜ r ≡ afterLines (now (s .entry)) at 12 ⌝ }
+// Where the op line of the sheet at a place starts: after its version line, if it has one.
+fn after_version(s: &[u8], at: usize) -> usize
+    ensures { λ r. ⌜ r ≡ afterVersion (now (s .entry)) at ⌝ }
 {
-    let mut next = at;
+    let line = read_line(s, at, b"version=");
+    match line {
+        Line::Value(_, _, next) => next,
+        Line::NoLine => at,
+    }
+}
+
+// Where the line starts that comes after the lines of a sheet, 12 and a version line if it has one.
+pub fn after_sheet(s: &[u8], at: usize) -> usize
+    ensures { λ r. ⌜ r ≡ afterSheet (now (s .entry)) at ⌝ }
+{
+    let mut next = after_version(s, at);
     let mut lines = 0usize;
     while lines < 12 {
         next = after_line(s, next);

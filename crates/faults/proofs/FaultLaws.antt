@@ -5,7 +5,8 @@ use mathlib.Core.List.{List, [], _∷_}
 use mathlib.Core.Bool.{Bool, true, false, cond}
 use borrow.Author.Needs.{needs}
 use Rattle.layer.specs.declared.Layer.{Layer}
-use Rattle.faults.specs.Faults.{badAxes, badAxis, hides, hidesSizes, unusedPadding, unusedRounding, unusedAxis, faults, firstFault, faultOf}
+use Rattle.layer.specs.Versions.{lacksOp, lacksRounding}
+use Rattle.faults.specs.Faults.{badVersion, badAxes, badAxis, hides, hidesSizes, unusedPadding, unusedRounding, unusedAxis, faults, firstFault, faultOf}
 use Rattle.faults.specs.declared.Fault.{Fault}
 use Rattle.faults.specs.declared.Fault.the-variants.{Fine, At}
 
@@ -46,12 +47,14 @@ found (t ∷ more) h = go (t .0) (firstFault more) (found more (h .1))
     go false Fine r = (refl, r)
     go false (At k n) r = r
 
-pub fault-found : (first : ℕ) (l : Layer) → Found (faults first l) (faultOf first l)
+pub fault-found : (l : Layer) → Found (faults l) (faultOf l)
 unfolding faultOf
-fault-found first l = found (faults first l) (search needs)
+fault-found l = found (faults l) (search needs)
 
 -- every test is passed
 pub record Passed (l : Layer) : Type 0 where
+  pub version : badVersion (l .version) ≡ false
+  pub op : lacksOp (l .version) (l .op) ≡ false
   pub axes : badAxes (l .axes) ≡ false
   pub input : hides (l .axes) (l .z .input) (l .y .input) 1 ≡ false
   pub kernel : hides (l .axes) (l .z .kernel) (l .y .kernel) 1 ≡ false
@@ -62,15 +65,16 @@ pub record Passed (l : Layer) : Type 0 where
   pub end : hides (l .axes) (l .z .«pad_end») (l .y .«pad_end») 0 ≡ false
   pub padding : hides (l .axes) (l .z .«output_padding») (l .y .«output_padding») 0 ≡ false
   pub used-padding : unusedPadding (l .op) (l .z .«output_padding») (l .y .«output_padding») (l .x .«output_padding») ≡ false
+  pub rounding : lacksRounding (l .version) (l .rounding) ≡ false
   pub used-rounding : unusedRounding (l .op) (l .rounding) ≡ false
   pub axis : badAxis (l .axis) ≡ false
   pub used-axis : unusedAxis (l .op) (l .axis) ≡ false
 
-module _ (first : ℕ) (l : Layer) where
-  pub passed : faultOf first l ≡ Fine → Passed l
-  passed e = let a = rw e at (fault-found first l) in search
+module _ (l : Layer) where
+  pub passed : faultOf l ≡ Fine → Passed l
+  passed e = let a = rw e at (fault-found l) in search
 
-  pub passed-fine : Passed l → faultOf first l ≡ Fine
+  pub passed-fine : Passed l → faultOf l ≡ Fine
   unfolding faultOf firstFault
   passed-fine p =
-      simp (p .axes, p .input, p .kernel, p .sizes, p .stride, p .dilation, p .begin, p .end, p .padding, p .used-padding, p .used-rounding, p .axis, p .used-axis)
+      simp (p .version, p .op, p .axes, p .input, p .kernel, p .sizes, p .stride, p .dilation, p .begin, p .end, p .padding, p .used-padding, p .rounding, p .used-rounding, p .axis, p .used-axis)

@@ -1,4 +1,4 @@
-// The first line that cannot show a layer: the writer's refusals. Line numbers are counted from `first`, that of the line `op=`.
+// The first line that cannot show a layer: the writer's refusals. The number of a line is counted from `first`, that of the line `op=`.
 use layer::Axis;
 use layer::Layer;
 use layer::Op;
@@ -8,15 +8,31 @@ use layer::is_default_axis_attribute;
 use layer::is_default_rounding;
 use layer::is_pool;
 use layer::is_transposed;
+use layer::lacks_op;
+use layer::lacks_rounding;
 use layer::uses_y;
 use layer::uses_z;
+use layer::version_in;
 ghost use mathlib.Core.Path.{_≡_};
-ghost use Rattle.faults.specs.Faults.{badAxes, badAxis, hides, hidesSizes, isDefaultPadding, unusedPadding, unusedRounding, unusedAxis, axisFaults, padFaults, firstFault, faultOf};
+ghost use Rattle.faults.specs.Faults.{badVersion, opLine, badAxes, badAxis, hides, hidesSizes, isDefaultPadding, unusedPadding, unusedRounding, unusedAxis, axisFaults, padFaults, lineFaults, firstFault, faultOf};
 
 // What a sheet cannot show of a layer: nothing, or the number and the line of the first bad line.
 pub enum Fault {
     Fine,
     At(u32, u32),
+}
+
+fn bad_version(version: u32) -> bool
+    ensures { λ r. ⌜ r ≡ badVersion version ⌝ }
+{
+    !version_in(version)
+}
+
+// The number of the line `op=`: a version line stands before it, but for the default version.
+fn op_line(version: u32) -> u8
+    ensures { λ r. ⌜ r ≡ opLine version ⌝ }
+{
+    if version == Layer::VERSION { 1 } else { 2 }
 }
 
 fn bad_axes(axes: u32) -> bool
@@ -110,21 +126,27 @@ fn pad_fault(first: u8, l: Layer) -> Fault
     if unused_padding(op, z.output_padding, y.output_padding, x.output_padding) {
         return Fault::At(23, line + 9);
     }
+    if lacks_rounding(l.version, rounding) {
+        return Fault::At(22, line + 10);
+    }
     if unused_rounding(op, rounding) {
         return Fault::At(23, line + 10);
     }
     axis_fault(first, op, axis)
 }
 
-// The first bad line.
-pub fn fault_of(first: u8, l: Layer) -> Fault
-    ensures { λ r. ⌜ r ≡ faultOf first l ⌝ }
+// The first bad line from op on.
+fn line_fault(first: u8, l: Layer) -> Fault
+    ensures { λ r. ⌜ r ≡ firstFault (lineFaults first l) ⌝ }
 {
     let line = first as u32;
     let op = l.op;
     let axes = l.axes;
     let z = l.z;
     let y = l.y;
+    if lacks_op(l.version, op) {
+        return Fault::At(23, line);
+    }
     if bad_axes(axes) {
         return Fault::At(21, line + 1);
     }
@@ -144,4 +166,14 @@ pub fn fault_of(first: u8, l: Layer) -> Fault
         return Fault::At(23, line + 5);
     }
     pad_fault(first, l)
+}
+
+// The first bad line.
+pub fn fault_of(l: Layer) -> Fault
+    ensures { λ r. ⌜ r ≡ faultOf l ⌝ }
+{
+    if bad_version(l.version) {
+        return Fault::At(21, 1);
+    }
+    line_fault(op_line(l.version), l)
 }

@@ -67,15 +67,16 @@ withPads base begin end padding =
       «output_padding» = padding;
     }
 
--- what lines 1 to 6 say of a layer; all else is at its default
-unfoldable pub sizedLayer : Op → ℕ → Items → Items → Items → Items → Layer
-sizedLayer op axes input kernel strides dilations =
+-- what the version and the lines from op to dilations say of a layer; all else is at its default
+unfoldable pub sizedLayer : ℕ → Op → ℕ → Items → Items → Items → Items → Layer
+sizedLayer version op axes input kernel strides dilations =
     let k = kernelOf op kernel in
     let sizeOn = perAxis axes (defaultAxis .input) (input .c) (input .d) (input .e) in
     let kernelOn = perAxis axes (defaultAxis .kernel) (k .first) (k .second) (k .third) in
     let strideOn = perAxis axes (defaultAxis .stride) (strides .a) (strides .b) (strides .c) in
     let dilationOn = perAxis axes (defaultAxis .dilation) (dilations .a) (dilations .b) (dilations .c) in
     record {
+      version = version;
       op = op;
       axes = axes;
       n = input .a;
@@ -91,13 +92,14 @@ sizedLayer op axes input kernel strides dilations =
       axis = defaultLayer op axes .axis;
     }
 
--- the same layer with what lines 7 to 12 say
+-- the same layer with what the lines from auto_pad on say
 unfoldable pub paddedLayer : Layer → AutoPad → Items → Items → Items → Rounding → ℤ → Layer
 paddedLayer l mode begin end padding rounding axis =
     let beginOn = perAxis (l .axes) (defaultAxis .«pad_begin») (begin .a) (begin .b) (begin .c) in
     let endOn = perAxis (l .axes) (defaultAxis .«pad_end») (end .a) (end .b) (end .c) in
     let paddingOn = perAxis (l .axes) (defaultAxis .«output_padding») (padding .a) (padding .b) (padding .c) in
     record {
+      version = l .version;
       op = l .op;
       axes = l .axes;
       n = l .n;

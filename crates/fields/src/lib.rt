@@ -125,8 +125,9 @@ fn with_pads(base: Axis, begin: u32, end: u32, padding: u32) -> Axis
     }
 }
 
-// The layer of lines 1 to 6: what they do not say is as the constructor has it.
+// The layer of a version and of the lines from op to dilations: what they do not say is as the constructor has it.
 pub fn sized_layer(
+    version: u32,
     op: Op,
     axes: u32,
     input: Items,
@@ -134,7 +135,7 @@ pub fn sized_layer(
     strides: Items,
     dilations: Items,
 ) -> Layer
-    ensures { λ r. ⌜ r ≡ sizedLayer op axes input kernel strides dilations ⌝ }
+    ensures { λ r. ⌜ r ≡ sizedLayer version op axes input kernel strides dilations ⌝ }
 {
     let base = Layer::new(op, axes);
     let auto_pad = base.auto_pad;
@@ -149,6 +150,7 @@ pub fn sized_layer(
     let y = with_sizes(base.y, size_on.y, kernel_on.y, stride_on.y, dilation_on.y);
     let x = with_sizes(base.x, size_on.x, kernel_on.x, stride_on.x, dilation_on.x);
     Layer {
+        version: version,
         op: op,
         axes: axes,
         n: input.a,
@@ -165,7 +167,7 @@ pub fn sized_layer(
     }
 }
 
-// The same layer with what lines 7 to 12 say.
+// The same layer with what the lines from auto_pad on say.
 pub fn padded_layer(
     l: Layer,
     mode: AutoPad,
@@ -186,6 +188,7 @@ pub fn padded_layer(
     let y = with_pads(l.y, begin_on.y, end_on.y, padding_on.y);
     let x = with_pads(l.x, begin_on.x, end_on.x, padding_on.x);
     Layer {
+        version: l.version,
         op: op,
         axes: axes,
         n: l.n,

@@ -5,8 +5,9 @@ use mathlib.Core.List.{List}
 use lib.ListN.{length, take}
 use Rattle.layer.specs.declared.Layer.{Layer}
 use Rattle.lines.specs.declared.Read.the-variants.{Sheet, Refused}
+use Rattle.writer.specs.Writer.{writeSheet, bufferAfter}
 use Rattle.writer.specs.declared.Written.{Written}
-use Rattle.sheet.specs.Sheet.{readSheet, writeSheet, bufferAfter}
+use Rattle.sheet.specs.Sheet.{readSheet}
 use Rattle.sheet.proofs.WayBack.{rewritten, refused-numbered}
 use Rattle.kozamyure.specs.declared.SheetWritten.{SheetWritten}
 use Rattle.kozamyure.specs.Boundary.{writtenBack, rewriteAnswer, rewriteBuffer}

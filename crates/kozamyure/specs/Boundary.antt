@@ -17,9 +17,9 @@ use Rattle.tensor.specs.declared.PeakAnswer.{PeakAnswer}
 use Rattle.sums.specs.Taps.{Place}
 use Rattle.call.specs.Call.{answerOf, contentsOf}
 use Rattle.pooling.specs.Call.{maxPoolAnswer, maxPoolValues, maxPoolIndices}
-use Rattle.sheet.specs.Sheet.{writeSheet, bufferAfter}
 use Rattle.lines.specs.declared.Read.{Read}
 use Rattle.lines.specs.declared.Read.the-variants.{Sheet, Refused}
+use Rattle.writer.specs.Writer.{writeSheet, bufferAfter}
 use Rattle.writer.specs.declared.Written.{Written}
 use Rattle.report.specs.declared.OutputSizes.{OutputSizes}
 use Rattle.report.specs.declared.OutputSizes.the-variants.{Sizes, NoSizes}
@@ -119,7 +119,7 @@ unfoldable pub rewriteBuffer : Read → List ℕ → List ℕ
 rewriteBuffer (Sheet l) buffer = bufferAfter l buffer
 rewriteBuffer (Refused number line) buffer = buffer
 
--- ---- the version of the library, 2.0.0
+-- ---- the version of the library, 2.1.0
 
 abbrev pub version : ℕ
-version = 2 * 10000 + 0 * 100 + 0
+version = 2 * 10000 + 1 * 100 + 0

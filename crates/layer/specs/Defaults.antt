@@ -1,5 +1,5 @@
--- "Defaults, held with the type of the layer record: strides 1, dilations 1, pads 0, output padding 0, auto_pad explicit, rounding floor, axis 0,
--- and 1 for any size that is not used."
+-- "Defaults, held with the type of the layer record: version 8, strides 1, dilations 1, pads 0, output padding 0, auto_pad explicit, rounding floor, axis 0,
+-- and 1 for any size that is not used"
 use Prim.Native.Nat.{ℕ}
 use mathlib.Core.Bool.{Bool, _&&_}
 use lib.IntN.{ℤ, pos}
@@ -17,7 +17,10 @@ use Rattle.layer.specs.Kinds.{sameRounding}
 abbrev pub defaultAxis : Axis
 defaultAxis = record { input = 1; kernel = 1; stride = 1; dilation = 1; «pad_begin» = 0; «pad_end» = 0; «output_padding» = 0 }
 
--- the constants of the layer record: "1 for any size that is not used", "auto_pad explicit, rounding floor, axis 0"
+-- the constants of the layer record: "version 8", "1 for any size that is not used", "auto_pad explicit, rounding floor, axis 0"
+abbrev pub versionDefault : ℕ
+versionDefault = 8
+
 abbrev pub sizeDefault : ℕ
 sizeDefault = 1
 
@@ -33,6 +36,7 @@ axisAttributeDefault = pos 0
 abbrev pub defaultLayer : Op → ℕ → Layer
 defaultLayer op axes =
     record {
+      version = versionDefault;
       op = op;
       axes = axes;
       n = sizeDefault;

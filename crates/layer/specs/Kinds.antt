@@ -5,7 +5,7 @@ use Rattle.layer.specs.declared.Op.the-variants.{Convolution, Transposed
 use Rattle.layer.specs.declared.AutoPad.{AutoPad}
 use Rattle.layer.specs.declared.AutoPad.the-variants.{Explicit, SameUpper, SameLower, Valid}
 use Rattle.layer.specs.declared.Rounding.{Rounding}
-use Rattle.layer.specs.declared.Rounding.the-variants.{Floor, Ceil}
+use Rattle.layer.specs.declared.Rounding.the-variants.{Floor, Ceil, CeilTorch}
 
 -- "Three operators .. convolution, transposed convolution, max pooling": a test for each
 abbrev pub isPool : Op → Bool
@@ -45,12 +45,20 @@ isSame Valid = false
 abbrev pub isFloor : Rounding → Bool
 isFloor Floor = true
 isFloor Ceil = false
+isFloor CeilTorch = false
 
 abbrev pub isCeil : Rounding → Bool
 isCeil Floor = false
 isCeil Ceil = true
+isCeil CeilTorch = false
+
+abbrev pub isCeilTorch : Rounding → Bool
+isCeilTorch Floor = false
+isCeilTorch Ceil = false
+isCeilTorch CeilTorch = true
 
 -- whether two roundings are one
 abbrev pub sameRounding : Rounding → Rounding → Bool
 sameRounding Floor b = isFloor b
 sameRounding Ceil b = isCeil b
+sameRounding CeilTorch b = isCeilTorch b

@@ -1,7 +1,8 @@
 // The layer record: what a layer sheet says of one layer, with its limits and defaults, and the answer record of a call.
 ghost use mathlib.Core.Path.{_≡_};
-ghost use Rattle.layer.specs.Kinds.{isPool, isTransposed, isConvolution, sameOp, isExplicit, isSame, isFloor, isCeil, sameRounding};
+ghost use Rattle.layer.specs.Kinds.{isPool, isTransposed, isConvolution, sameOp, isExplicit, isSame, isFloor, isCeil, isCeilTorch, sameRounding};
 ghost use Rattle.layer.specs.Axes.{axesIn, usesY, usesZ};
+ghost use Rattle.layer.specs.Versions.{versionIn, lacksOp, lacksRounding};
 ghost use Rattle.layer.specs.Limits.{within, imagesOk, channelsOk, sizeOk, kernelOk, stepOk, padOk, outputPaddingOk, tapsOk, elementsOk, axisOk};
 ghost use Rattle.layer.specs.Defaults.{defaultAxis, defaultLayer, isDefaultRounding, isDefaultAxisAttribute};
 ghost use Rattle.layer.specs.Answers.{numbered, badElement};
@@ -22,6 +23,7 @@ pub enum AutoPad {
 pub enum Rounding {
     Floor,
     Ceil,
+    CeilTorch,
 }
 
 // What a layer says of one spatial axis.
@@ -35,9 +37,10 @@ pub struct Axis {
     pub output_padding: u32,
 }
 
-// A layer. The input is [n, c, z, y, x], the kernel [g, o, i, kz, ky, kx] or, transposed, [g, i, o, kz, ky, kx]. With two axes z is not used, with one
+// A layer. The version is that of its operator: 8, or 14 for MaxPool-14. The input is [n, c, z, y, x], the kernel [g, o, i, kz, ky, kx] or, transposed, [g, i, o, kz, ky, kx]. With two axes z is not used, with one
 // neither z nor y.
 pub struct Layer {
+    pub version: u32,
     pub op: Op,
     pub axes: u32,
     pub n: u32,
@@ -90,6 +93,8 @@ impl Axis {
 }
 
 impl Layer {
+    pub const VERSION: u32 = 8;
+
     pub const SIZE: u32 = 1;
 
     pub const AUTO_PAD: AutoPad = AutoPad::Explicit;
@@ -103,6 +108,7 @@ impl Layer {
         ensures { λ r. ⌜ r ≡ defaultLayer op axes ⌝ }
     {
         Layer {
+            version: Layer::VERSION,
             op: op,
             axes: axes,
             n: Layer::SIZE,
@@ -218,6 +224,7 @@ fn is_floor(r: Rounding) -> bool
     match r {
         Rounding::Floor => true,
         Rounding::Ceil => false,
+        Rounding::CeilTorch => false,
     }
 }
 
@@ -227,6 +234,17 @@ fn is_ceil(r: Rounding) -> bool
     match r {
         Rounding::Floor => false,
         Rounding::Ceil => true,
+        Rounding::CeilTorch => false,
+    }
+}
+
+pub fn is_ceil_torch(r: Rounding) -> bool
+    ensures { λ b. ⌜ b ≡ isCeilTorch r ⌝ }
+{
+    match r {
+        Rounding::Floor => false,
+        Rounding::Ceil => false,
+        Rounding::CeilTorch => true,
     }
 }
 
@@ -237,7 +255,29 @@ fn same_rounding(a: Rounding, b: Rounding) -> bool
     match a {
         Rounding::Floor => is_floor(b),
         Rounding::Ceil => is_ceil(b),
+        Rounding::CeilTorch => is_ceil_torch(b),
     }
+}
+
+// ---- versions
+
+pub fn version_in(version: u32) -> bool
+    ensures { λ r. ⌜ r ≡ versionIn version ⌝ }
+{
+    (version == 8) | (version == 14)
+}
+
+// Version 14 is of max pooling alone.
+pub fn lacks_op(version: u32, op: Op) -> bool
+    ensures { λ r. ⌜ r ≡ lacksOp version op ⌝ }
+{
+    (version == 14) & !is_pool(op)
+}
+
+pub fn lacks_rounding(version: u32, rounding: Rounding) -> bool
+    ensures { λ r. ⌜ r ≡ lacksRounding version rounding ⌝ }
+{
+    (version == 8) & is_ceil_torch(rounding)
 }
 
 // ---- axes

@@ -1,4 +1,4 @@
--- One line of a sheet: its key, and a value that its operator uses or that is at its default.
+-- One line of a sheet: its key, and a value that its operator takes.
 use Prim.Native.Nat.{ℕ}
 use mathlib.Core.List.{List}
 use mathlib.Core.Bool.{Bool, cond, _||_}
@@ -13,10 +13,15 @@ use Rattle.lines.specs.declared.LineAnswer.the-variants.{LineAt, BadLine
 unfoldable pub fieldLine : List ℕ → Field → List ℕ → ℕ → Parsed Items
 fieldLine key field s at = keyLine key (fieldValue field) 20 (unread field) s at
 
--- "23 a line its operator doesn't use (output_padding, rounding, axis) not at its default"
-unfoldable pub unlessUsed : Bool → Parsed Items → Parsed Items
-unlessUsed used (bad k) = bad k
-unlessUsed used (got v next) = cond (used || isDefaultValue v) (got v next) (bad 23)
+-- "23 a line its operator doesn't use (output_padding, rounding, axis) not at its default, and at the op line version 14 with another op than maxpool": a value
+-- that is read and not taken
+unfoldable pub unlessTaken : (Items → Bool) → Parsed Items → Parsed Items
+unlessTaken taken (bad k) = bad k
+unlessTaken taken (got v next) = cond (taken v) (got v next) (bad 23)
+
+-- of a line that is used any value is taken, of another its default alone
+abbrev pub ifUsed : Bool → Items → Bool
+ifUsed used v = used || isDefaultValue v
 
 -- what the code's answer says: "When an answer is an enum, the promises use a definition that gives this paper's number and values for each case."
 abbrev pub parsed : LineAnswer → Parsed Items

@@ -16,7 +16,7 @@ ghost use mathlib.Core.Path.{_≡_};
 ghost use Rattle.text.specs.Lines.{showLine};
 ghost use Rattle.print.specs.Put.{Put};
 ghost use Rattle.values.specs.Values.{showField};
-ghost use Rattle.lines.specs.Lines.{fieldLine, unlessUsed, parsed};
+ghost use Rattle.lines.specs.Lines.{fieldLine, unlessTaken, ifUsed, parsed};
 
 // What reading a sheet gives: the layer, or the number and the line of a refusal.
 pub enum Read {
@@ -45,7 +45,7 @@ fn field_line(s: &[u8], at: usize, key: &[u8], field: Field) -> LineAnswer
 
 // The line at a place, whose value is used or at its default.
 pub fn line_at(s: &[u8], at: usize, key: &[u8], field: Field, used: bool) -> LineAnswer
-    ensures { λ r. ⌜ parsed r ≡ unlessUsed used (fieldLine (now (key .entry)) field (now (s .entry)) at) ⌝ }
+    ensures { λ r. ⌜ parsed r ≡ unlessTaken (ifUsed used) (fieldLine (now (key .entry)) field (now (s .entry)) at) ⌝ }
 {
     let r = field_line(s, at, key, field);
     let LineAnswer::LineAt(items, _) = r else {

@@ -5,7 +5,7 @@ use mathlib.Core.List.{List}
 use mathlib.Core.Bool.{Bool}
 use Rattle.text.specs.declared.Items.{Items}
 use Rattle.values.specs.declared.Field.{Field}
-use Rattle.lines.specs.Lines.{fieldLine, unlessUsed, parsed}
+use Rattle.lines.specs.Lines.{fieldLine, unlessTaken, parsed}
 use Rattle.lines.specs.Form.{Form, line, readForm}
 use Rattle.lines.specs.declared.Read.{Read}
 use Rattle.lines.specs.declared.LineAnswer.{LineAnswer}
@@ -18,11 +18,11 @@ use Rattle.reader.specs.declared.ThreeLines.the-variants.{ThreeAt, BadAt
 -- ---- r is the code's answer for one line, t for three
 
 -- one of the three is refused
-pub bad-line : (key : List ℕ) (field : Field) (used : Bool) (more : Items → Form) (number : ℕ) (s : List ℕ) (at : ℕ) (r : LineAnswer)
-    → parsed r ≡ unlessUsed used (fieldLine key field s at) → {k n : ℕ} → r ≡ BadLine k → {t : ThreeLines} → t ≡ refused n r → n ≡ number
-    → (f : Items → Items → Items → ℕ → Read) → readForm (line key field used more) number s at ≡ afterThree t f
+pub bad-line : (key : List ℕ) (field : Field) (taken : Items → Bool) (more : Items → Form) (number : ℕ) (s : List ℕ) (at : ℕ) (r : LineAnswer)
+    → parsed r ≡ unlessTaken taken (fieldLine key field s at) → {k n : ℕ} → r ≡ BadLine k → {t : ThreeLines} → t ≡ refused n r → n ≡ number
+    → (f : Items → Items → Items → ℕ → Read) → readForm (line key field taken more) number s at ≡ afterThree t f
 unfolding afterThree refused
-bad-line key field used more number s at r q e h m f = stopped key field used more number s at r q e ∙ sym (rw (h, e, m))
+bad-line key field taken more number s at r q e h m f = stopped key field taken more number s at r q e ∙ sym (rw (h, e, m))
 
 -- the three are read, and the line after them has the number n
 pub three-read : (more : Items → Items → Items → Form) (s : List ℕ) (a b c : Items) (next : ℕ) {number n : ℕ} → number ≡ n

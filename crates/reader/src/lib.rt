@@ -1,10 +1,11 @@
-// The reader of a sheet's lines over lent bytes, three lines at a time. Line numbers are counted from `first`, that of the line `op=`.
+// The reader of a sheet's lines over lent bytes: the version line, and the twelve others three at a time. Line numbers are counted from `first`, that of the line `op=`.
 use fields::kernel_numbers;
 use fields::padded_layer;
 use fields::sized_layer;
 use layer::Op;
 use layer::is_pool;
 use layer::is_transposed;
+use layer::lacks_op;
 use lines::LineAnswer;
 use lines::Read;
 use lines::line_at;
@@ -16,8 +17,10 @@ use values::op_of;
 use values::rounding_of;
 ghost use Prim.Native.Nat.{_+_};
 ghost use mathlib.Core.Path.{_≡_};
+ghost use Rattle.text.specs.Texts.{text};
+ghost use Rattle.lines.specs.Lines.{fieldLine, unlessTaken, parsed};
 ghost use Rattle.lines.specs.Form.{readForm};
-ghost use Rattle.fields.specs.Sheet.{firstLines, sizeLines, padLines, lastLines, sheetForm};
+ghost use Rattle.fields.specs.Sheet.{opTaken, firstLines, sizeLines, padLines, lastLines, twelveLines, thirteenLines};
 ghost use Rattle.reader.specs.Reader.{ReadThree, refused, notRead};
 
 // A line that every operator uses.
@@ -49,12 +52,26 @@ fn not_read(r: ThreeLines) -> Read
     }
 }
 
+// The line `op=`, whose operator the version has.
+fn op_line(version: u32, s: &[u8], at: usize) -> LineAnswer
+    ensures { λ r. ⌜ parsed r ≡ unlessTaken (opTaken version) (fieldLine (text "op=") Field.OpWord (now (s .entry)) at) ⌝ }
+{
+    let r = line_at(s, at, b"op=", Field::OpWord, ALWAYS);
+    let LineAnswer::LineAt(word, _) = r else {
+        return r;
+    };
+    if lacks_op(version, op_of(word)) {
+        return LineAnswer::BadLine(23);
+    }
+    r
+}
+
 // op, axes and input.
-fn read_first(first: u8, s: &[u8], at0: usize) -> ThreeLines
-    ensures { λ r. ⌜ ReadThree firstLines first (first + 3) (now (s .entry)) at0 r ⌝ }
+fn read_first(version: u32, first: u8, s: &[u8], at0: usize) -> ThreeLines
+    ensures { λ r. ⌜ ReadThree (firstLines version) first (first + 3) (now (s .entry)) at0 r ⌝ }
 {
     let line = first as u32;
-    let mut r = line_at(s, at0, b"op=", Field::OpWord, ALWAYS);
+    let mut r = op_line(version, s, at0);
     let LineAnswer::LineAt(op, at1) = r else {
         return refuse(r, line);
     };
@@ -114,8 +131,8 @@ fn read_pads(first: u8, axes: u32, s: &[u8], at6: usize) -> ThreeLines
 }
 
 // output_padding, rounding and axis.
-fn read_last(first: u8, op: Op, axes: u32, s: &[u8], at9: usize) -> ThreeLines
-    ensures { λ r. ⌜ ReadThree (lastLines op axes) (first + 9) (first + 12) (now (s .entry)) at9 r ⌝ }
+fn read_last(version: u32, first: u8, op: Op, axes: u32, s: &[u8], at9: usize) -> ThreeLines
+    ensures { λ r. ⌜ ReadThree (lastLines version op axes) (first + 9) (first + 12) (now (s .entry)) at9 r ⌝ }
 {
     let line = first as u32;
     let list = Field::NumberList(axes as usize);
@@ -123,7 +140,8 @@ fn read_last(first: u8, op: Op, axes: u32, s: &[u8], at9: usize) -> ThreeLines
     let LineAnswer::LineAt(padding, at10) = r else {
         return refuse(r, line + 9);
     };
-    r = line_at(s, at10, b"rounding=", Field::RoundingWord, is_pool(op));
+    let rounding_word = Field::RoundingWord(version);
+    r = line_at(s, at10, b"rounding=", rounding_word, is_pool(op));
     let LineAnswer::LineAt(rounding, at11) = r else {
         return refuse(r, line + 10);
     };
@@ -134,11 +152,11 @@ fn read_last(first: u8, op: Op, axes: u32, s: &[u8], at9: usize) -> ThreeLines
     ThreeLines::ThreeAt(padding, rounding, axis, at12)
 }
 
-// The layer that the twelve lines from a place on say, or the first bad line.
-pub fn read_lines(first: u8, s: &[u8], at0: usize) -> Read
-    ensures { λ r. ⌜ r ≡ readForm sheetForm first (now (s .entry)) at0 ⌝ }
+// The layer of a version that the twelve lines from a place on say, or the first bad line.
+pub fn read_lines(version: u32, first: u8, s: &[u8], at0: usize) -> Read
+    ensures { λ r. ⌜ r ≡ readForm (twelveLines version) first (now (s .entry)) at0 ⌝ }
 {
-    let r3 = read_first(first, s, at0);
+    let r3 = read_first(version, first, s, at0);
     let ThreeLines::ThreeAt(word, number, input, at3) = r3 else {
         return not_read(r3);
     };
@@ -148,12 +166,12 @@ pub fn read_lines(first: u8, s: &[u8], at0: usize) -> Read
     let ThreeLines::ThreeAt(kernel, strides, dilations, at6) = r6 else {
         return not_read(r6);
     };
-    let sized = sized_layer(op, axes, input, kernel, strides, dilations);
+    let sized = sized_layer(version, op, axes, input, kernel, strides, dilations);
     let r9 = read_pads(first, axes, s, at6);
     let ThreeLines::ThreeAt(mode, begin, end, at9) = r9 else {
         return not_read(r9);
     };
-    let r12 = read_last(first, op, axes, s, at9);
+    let r12 = read_last(version, first, op, axes, s, at9);
     let ThreeLines::ThreeAt(padding, rounding, axis, at12) = r12 else {
         return not_read(r12);
     };
@@ -171,4 +189,15 @@ pub fn read_lines(first: u8, s: &[u8], at0: usize) -> Read
         used,
         position,
     ))
+}
+
+// The layer that a sheet with a version line says, or the first bad line.
+pub fn read_versioned(s: &[u8]) -> Read
+    ensures { λ r. ⌜ r ≡ readForm thirteenLines 1 (now (s .entry)) 0 ⌝ }
+{
+    let r = line_at(s, 0, b"version=", Field::VersionWord, ALWAYS);
+    let LineAnswer::LineAt(_, at) = r else {
+        return not_read(refuse(r, 1));
+    };
+    read_lines(14, 2, s, at)
 }

@@ -1,7 +1,7 @@
 // Runs what no layer sheet can say, and the plane picker. Cases are read from standard input; a line is printed for each.
 // A case of a record has 15 lines: its name, the 12 lines of a layer sheet, the field of the layer that is then changed, as `z.input=2`, and how many bytes are
-// lent to the writer. All three operators are called with the layer, over an input (2), a kernel (3) and outputs of one element, and the layer is written as
-// a sheet.
+// lent to the writer; 16 if the sheet has a version line. All three operators are called with the layer, over an input (2), a kernel (3) and outputs of one
+// element, and the layer is written as a sheet.
 // A case of a plane has six: its name, the tensor's sizes, its length, the image, the channel and the depth. The tensor's elements are their own places.
 // The outputs and the buffer hold marks before the calls: `kept` says that they still do.
 use cases::after_line;
@@ -256,6 +256,9 @@ fn changed_rounding(rounding: Rounding, value: &[u8]) -> Rounding {
     if is_text(value, b"floor") {
         return Rounding::Floor;
     }
+    if is_text(value, b"ceil_torch") {
+        return Rounding::CeilTorch;
+    }
     rounding
 }
 
@@ -288,6 +291,7 @@ fn changed(l: Layer, change: &[u8]) -> Layer {
     let rounding_after = changed_rounding(rounding, after_key(change, b"rounding="));
     let axis = changed_axis(l.axis, after_key(change, b"axis="));
     Layer {
+        version: changed_field(l.version, change, b"version="),
         op: op,
         axes: changed_field(l.axes, change, b"axes="),
         n: l.n,

@@ -16,10 +16,13 @@ use layer::is_default_axis_attribute;
 use layer::is_default_rounding;
 use layer::is_explicit;
 use layer::is_pool;
+use layer::lacks_op;
+use layer::lacks_rounding;
 use layer::same_op;
 use layer::taps_ok;
 use layer::uses_y;
 use layer::uses_z;
+use layer::version_in;
 use sizes::Direction;
 use sizes::Sizing;
 use sizes::Span;
@@ -40,7 +43,7 @@ ghost use Rattle.counts.specs.Counts.{capped};
 ghost use Rattle.shape.specs.Counts.{inputCount, kernelCount, tapCount, outputChannels, modulusOf, shapeWith};
 ghost use Rattle.shape.specs.Volumes.{inputRows, kernelRows, outRows, onDepths, onRows};
 ghost use Rattle.shape.specs.Windows.{someEmpty};
-ghost use Rattle.shape.specs.Checks.{groupsWithin, axisWithin, dimensionsOk, padsAtDefault, axisAtDefault, axisFieldsOk, axesOk, poolingOk, notPoolingOk, unusedOk, attributesOk, groupsOk, countsOk};
+ghost use Rattle.shape.specs.Checks.{groupsWithin, axisWithin, dimensionsOk, padsAtDefault, axisAtDefault, axisFieldsOk, axesOk, poolingOk, notPoolingOk, unusedOk, versionOk, attributesOk, groupsOk, countsOk};
 ghost use Rattle.shape.specs.Judge.{judged};
 ghost use Rattle.shape.specs.Facts.{Passed, Fitted};
 
@@ -153,12 +156,23 @@ fn unused_ok(op: Op, l: Layer) -> bool
     }
 }
 
+fn version_ok(version: u32, op: Op, rounding: Rounding) -> bool
+    ensures { λ r. ⌜ r ≡ versionOk version op rounding ⌝ }
+{
+    version_in(version) & !lacks_op(version, op) & !lacks_rounding(version, rounding)
+}
+
 fn attributes_ok(op: Op, l: Layer) -> bool
     ensures { λ r. ⌜ r ≡ attributesOk op l ⌝ }
 {
     let own = l.op;
     let m = l.auto_pad;
-    same_op(op, own) & mode_ok(op, m) & axes_ok(op, m, l.axes, l.z, l.y, l.x) & unused_ok(op, l)
+    let rounding = l.rounding;
+    same_op(op, own)
+        & version_ok(l.version, own, rounding)
+        & mode_ok(op, m)
+        & axes_ok(op, m, l.axes, l.z, l.y, l.x)
+        & unused_ok(op, l)
 }
 
 // ---- numbers 3 and 4

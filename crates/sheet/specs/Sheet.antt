@@ -1,21 +1,18 @@
--- The layer sheet: its lines are counted from 1, and it begins at the first byte.
+-- The layer sheet: which lines a text has, by its beginning, and what reading it gives. Its lines are counted from 1, and it begins at the first byte.
 use Prim.Native.Nat.{ℕ}
 use mathlib.Core.List.{List}
-use Rattle.layer.specs.declared.Layer.{Layer}
-use Rattle.lines.specs.Form.{readForm}
+use mathlib.Core.Bool.{cond}
+use Rattle.text.specs.Texts.{text, startsWith}
+use Rattle.layer.specs.Defaults.{versionDefault}
+use Rattle.lines.specs.Form.{Form, readForm}
 use Rattle.lines.specs.declared.Read.{Read}
-use Rattle.fields.specs.Sheet.{sheetForm}
-use Rattle.writer.specs.Writer.{writeLines, linesAfter}
-use Rattle.writer.specs.declared.Written.{Written}
+use Rattle.fields.specs.Sheet.{twelveLines, thirteenLines}
+
+-- "A sheet that begins with `version=` has that line as line 1 and `op=` as line 2; any other beginning is the op line, line 1"; "a sheet of twelve lines is
+-- version 8"
+abbrev pub linesOf : List ℕ → Form
+linesOf s = cond (startsWith (text "version=") s) thirteenLines (twelveLines versionDefault)
 
 -- what reading a text gives
 unfoldable pub readSheet : List ℕ → Read
-readSheet s = readForm sheetForm 1 s 0
-
--- what writing a layer answers, for a buffer of so many bytes
-unfoldable pub writeSheet : Layer → ℕ → Written
-writeSheet l room = writeLines 1 l room
-
--- what the buffer holds after the write
-unfoldable pub bufferAfter : Layer → List ℕ → List ℕ
-bufferAfter l buffer = linesAfter 1 l buffer
+readSheet s = readForm (linesOf s) 1 s 0

@@ -2,17 +2,23 @@
 use layer::Layer;
 use lines::Read;
 use reader::read_lines;
+use reader::read_versioned;
+use text::starts;
 use writer::Written;
 use writer::write_lines;
 ghost use mathlib.Core.Path.{_≡_};
 ghost use lib.ListN.{length, take};
-ghost use Rattle.sheet.specs.Sheet.{readSheet, writeSheet, bufferAfter};
+ghost use Rattle.writer.specs.Writer.{writeSheet, bufferAfter};
+ghost use Rattle.sheet.specs.Sheet.{readSheet};
 
 // The layer that a sheet says, or the first bad line.
 pub fn read_sheet(s: &[u8]) -> Read
     ensures { λ r. ⌜ r ≡ readSheet (now (s .entry)) ⌝ }
 {
-    read_lines(1, s, 0)
+    if starts(s, b"version=") {
+        return read_versioned(s);
+    }
+    read_lines(Layer::VERSION, 1, s, 0)
 }
 
 // The sheet from the buffer's start, which is read as the layer again, or a refusal with the buffer as it was.
@@ -21,5 +27,5 @@ pub fn write_sheet(layer: Layer, buf: &mut [u8]) -> Written
     ensures contents { λ r. ⌜ now (buf .exit) ≡ bufferAfter layer (now (buf .entry)) ⌝ }
     ensures back { λ r. ⌜ (r .number ≡ 0 → readSheet (take (r .length) (now (buf .exit))) ≡ Read.Sheet layer) ⌝ }
 {
-    write_lines(1, layer, buf)
+    write_lines(layer, buf)
 }

@@ -14,7 +14,7 @@ use layer::step_ok;
 ghost use Prim.Native.Nat.{_^_, _+_, _-_, _*_, _/_, _≤_, _<_, min};
 ghost use mathlib.Core.Path.{_≡_};
 ghost use mathlib.Core.Bool.{true};
-ghost use Rattle.sizes.specs.Size.{ceilDiv, dilatedKernel, padded, quotient, sameOut, sameTotal, padsOf, windowOut, transposedOut, outOf, windowFits, axisFits, roundingOf};
+ghost use Rattle.sizes.specs.Size.{ceilDiv, dilatedKernel, padded, lessLast, explicitOut, sameOut, sameTotal, padsOf, windowOut, transposedOut, outOf, windowFits, axisFits, roundingOf};
 ghost use Rattle.sizes.specs.Taps.{tapInside, someMissed, Exactly, stepsTo};
 ghost use Rattle.sizes.specs.Joins.{positionIn, positionBy, forward, backward, tapOn};
 ghost use Rattle.sizes.specs.Sizing.{axisDimensionsOk, padsOk, axisAttributesOk, modeOk, spanOf, sizing};
@@ -82,16 +82,6 @@ fn ceil_div(a: usize, b: usize) -> usize
     ensures { λ r. ⌜ r ≡ ceilDiv a b ⌝ }
 {
     (a + (b - 1)) / b
-}
-
-fn quotient(rounding: Rounding, a: usize, b: usize) -> usize
-    requires { ⌜ (1 ≤ b) × (a + b < 2 ^ 64) ⌝ }
-    ensures { λ r. ⌜ r ≡ quotient rounding a b ⌝ }
-{
-    match rounding {
-        Rounding::Floor => a / b,
-        Rounding::Ceil => ceil_div(a, b),
-    }
 }
 
 // ---- the size rule, for any axis within its limits
@@ -204,13 +194,40 @@ fn rounding_of(m: AutoPad, rounding: Rounding) -> Rounding
     }
 }
 
+// A size, less one where its last window would start at or past the input's end.
+fn less_last(p: Pads, a: Axis, out: usize) -> usize
+    requires { ⌜ AxisLimits a × (padded p a < 2 ^ 40) × (1 ≤ out) × (out ≤ 2 ^ 40) ⌝ }
+    ensures { λ r. ⌜ r ≡ lessLast p a out ⌝ }
+{
+    let begin = p.begin;
+    if a.input as usize + begin <= (out - 1) * a.stride as usize {
+        return out - 1;
+    }
+    out
+}
+
+// The size by a rounding, with any pads that leave room for the kernel.
+fn explicit_out(rounding: Rounding, p: Pads, a: Axis) -> usize
+    requires { ⌜ AxisLimits a × (dilatedKernel a ≤ padded p a) × (padded p a < 2 ^ 40) ⌝ }
+    ensures { λ r. ⌜ r ≡ explicitOut rounding p a ⌝ }
+{
+    let begin = p.begin;
+    let end = p.end;
+    let room = a.input as usize + begin + end - dilated_kernel(a);
+    let stride = a.stride as usize;
+    match rounding {
+        Rounding::Floor => room / stride + 1,
+        Rounding::Ceil => ceil_div(room, stride) + 1,
+        Rounding::CeilTorch => less_last(p, a, ceil_div(room, stride) + 1),
+    }
+}
+
 // The output size of convolution and pooling, for every mode: the explicit size with the pads of the mode.
 fn window_out(m: AutoPad, rounding: Rounding, a: Axis) -> usize
     requires { ⌜ AxisLimits a × (windowFits m a ≡ true) ⌝ }
     ensures { λ r. ⌜ r ≡ windowOut m rounding a ⌝ }
 {
-    let room = padded_size(m, a) - dilated_kernel(a);
-    quotient(rounding_of(m, rounding), room, a.stride as usize) + 1
+    explicit_out(rounding_of(m, rounding), pads_of(m, a), a)
 }
 
 fn out_of(op: Op, m: AutoPad, rounding: Rounding, a: Axis) -> usize

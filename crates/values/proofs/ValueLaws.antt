@@ -2,7 +2,7 @@
 use Prim.Native.Nat.{ℕ, suc, _+_, _-_, _≤_, _<_}
 use mathlib.Core.Path.{_≡_, refl, sym, ap, _∙_}
 use mathlib.Core.List.{List, [], _∷_}
-use mathlib.Core.Bool.{Bool, true, false, cond, false≢true}
+use mathlib.Core.Bool.{Bool, true, false, cond, _&&_, false≢true}
 use mathlib.Core.Option.{Option, some, none}
 use native.Mathlib.Nat.{add-sub-cancel-left}
 use native.Mathlib.Omega.{arith}
@@ -18,19 +18,21 @@ use Rattle.text.specs.declared.Items.{Items}
 use Rattle.text.proofs.NumberLaws.{number-decimal, decimal-number, decimal-absent, decimal-small}
 use Rattle.text.proofs.ListLaws.{InRange, keep, some-last, numbers-inverse, numbers-shown, numbers-read}
 use Rattle.layer.specs.Axes.{axesIn}
+use Rattle.layer.specs.Kinds.{isCeilTorch}
+use Rattle.layer.specs.Versions.{lacksRounding}
 use Rattle.layer.specs.declared.Op.{Op}
 use Rattle.layer.specs.declared.Op.the-variants.{Convolution, Transposed, MaxPool}
 use Rattle.layer.specs.declared.AutoPad.{AutoPad}
 use Rattle.layer.specs.declared.AutoPad.the-variants.{Explicit, SameUpper, SameLower, Valid}
 use Rattle.layer.specs.declared.Rounding.{Rounding}
-use Rattle.layer.specs.declared.Rounding.the-variants.{Floor, Ceil}
+use Rattle.layer.specs.declared.Rounding.the-variants.{Floor, Ceil, CeilTorch}
 use Rattle.layer.proofs.Tests.{within-both}
 use Rattle.values.specs.declared.Field.{Field}
-use Rattle.values.specs.declared.Field.the-variants.{OpWord, AxesNumber, NumberList, AutoPadWord, RoundingWord, AxisDigit}
-use Rattle.values.specs.Words.{wordAt, wordFrom}
-use Rattle.values.specs.Values.{opWords, autoPadWords, roundingWords, axesNumber, signed, digitFrom, axisNumber, showAxis, fieldValue, showField, unread}
+use Rattle.values.specs.declared.Field.the-variants.{VersionWord, OpWord, AxesNumber, NumberList, AutoPadWord, RoundingWord, AxisDigit}
+use Rattle.values.specs.Words.{wordAt, wordFrom, wordPlace}
+use Rattle.values.specs.Values.{versionWords, opWords, autoPadWords, roundingWords, roundingCount, axesNumber, signed, digitFrom, axisNumber, showAxis, fieldValue, showField, unread}
 use Rattle.values.specs.Kinds.{opOf, opItems, autoPadOf, autoPadItems, roundingOf, roundingItems, axisOf, axisItems}
-use Rattle.values.proofs.WordLaws.{word-inverse, word-back}
+use Rattle.values.proofs.WordLaws.{word-inverse, word-each, word-back}
 
 -- ---- the number of axes
 cond-some : {A : Type 0} (b : Bool) {x : Option A} {v : A} → cond b x none ≡ some v → (b ≡ true) × (x ≡ some v)
@@ -109,20 +111,22 @@ axis-one-line a false = ap suc (decimal-absent 10 (omega arith) a)
 -- ---- every kind
 pub field-inverse : (field : Field) → Inverse (fieldValue field) (showField field)
 unfolding fieldValue showField place
+field-inverse VersionWord = word-inverse 1 versionWords refl
 field-inverse OpWord = word-inverse 3 opWords refl
 field-inverse AxesNumber = record { shown-read = λ t v e. axes-read t v e .0; one-line = λ v. decimal-absent 10 (omega arith) (v .a) }
 field-inverse (NumberList count) = numbers-inverse count
 field-inverse AutoPadWord = word-inverse 4 autoPadWords refl
-field-inverse RoundingWord = word-inverse 2 roundingWords refl
+field-inverse (RoundingWord version) = word-inverse (roundingCount version) roundingWords refl
 field-inverse AxisDigit =
     record { shown-read = λ t v e. let r = axis-read t v e in rw (r .2) (r .3); one-line = λ v. axis-one-line (v .a) (eqb (v .b) 0) }
 
 pub unread-numbered : (field : Field) → unread field ≡ 0 → ⊥
+unread-numbered VersionWord e = omega (arith, e)
 unread-numbered OpWord e = omega (arith, e)
 unread-numbered AxesNumber e = omega (arith, e)
 unread-numbered (NumberList count) e = omega (arith, e)
 unread-numbered AutoPadWord e = omega (arith, e)
-unread-numbered RoundingWord e = omega (arith, e)
+unread-numbered (RoundingWord version) e = omega (arith, e)
 unread-numbered AxisDigit e = omega (arith, e)
 
 -- ---- lists
@@ -136,6 +140,14 @@ module _ (count k : ℕ) (items : Items) (e : count ≡ suc k) (h : k < 6) where
   list-back q = rw e (numbers-read k items h (rw e at q))
 
 -- ---- words
+pub version-readable : fieldValue VersionWord (showField VersionWord (oneItem 0)) ≡ some (oneItem 0)
+unfolding fieldValue showField wordAt wordFrom lastNumber place same startsWith
+version-readable = refl
+
+pub version-back : (v : Items) → fieldValue VersionWord (showField VersionWord v) ≡ some v → v ≡ oneItem 0
+unfolding fieldValue
+version-back v e = word-each 1 versionWords (λ items. items ≡ oneItem 0) (refl, tt) (showField VersionWord v) v e
+
 pub op-again : (op : Op) → opOf (opItems op) ≡ op
 op-again Convolution = refl
 op-again Transposed = refl
@@ -171,12 +183,33 @@ auto-pad-back v e = word-back 4 autoPadWords (λ (items : Items). autoPadItems (
 pub rounding-again : (rounding : Rounding) → roundingOf (roundingItems rounding) ≡ rounding
 rounding-again Floor = refl
 rounding-again Ceil = refl
+rounding-again CeilTorch = refl
 
-pub rounding-readable : (rounding : Rounding) → fieldValue RoundingWord (showField RoundingWord (roundingItems rounding)) ≡ some (roundingItems rounding)
+-- a rounding that the version knows, and no other
+pub rounding-readable : (version : ℕ) (rounding : Rounding) → lacksRounding version rounding ≡ false
+    → fieldValue (RoundingWord version) (showField (RoundingWord version) (roundingItems rounding)) ≡ some (roundingItems rounding)
 unfolding fieldValue showField wordAt wordFrom lastNumber place same startsWith
-rounding-readable Floor = refl
-rounding-readable Ceil = refl
+rounding-readable version rounding h = go (eqb version 8) rounding h
+  where
+    go : (b : Bool) (r : Rounding) → b && isCeilTorch r ≡ false
+        → lastNumber (wordPlace (cond b 2 3) roundingWords (wordAt (roundingItems r .a) roundingWords)) ≡ some (roundingItems r)
+    go true Floor e = refl
+    go true Ceil e = refl
+    go true CeilTorch e = absurd (false≢true (sym e))
+    go false Floor e = refl
+    go false Ceil e = refl
+    go false CeilTorch e = refl
 
-pub rounding-back : (v : Items) → fieldValue RoundingWord (showField RoundingWord v) ≡ some v → roundingItems (roundingOf v) ≡ v
-unfolding fieldValue
-rounding-back v e = word-back 2 roundingWords (λ (items : Items). roundingItems (roundingOf items)) (refl, (refl, tt)) (showField RoundingWord v) v e
+pub rounding-back : (version : ℕ) (v : Items) → fieldValue (RoundingWord version) (showField (RoundingWord version) v) ≡ some v
+    → (roundingItems (roundingOf v) ≡ v) × (lacksRounding version (roundingOf v) ≡ false)
+unfolding fieldValue showField
+rounding-back version v e = go (eqb version 8) e
+  where
+    back : Items → Items
+    back items = roundingItems (roundingOf items)
+
+    go : (b : Bool) → lastNumber (wordPlace (cond b 2 3) roundingWords (wordAt (v .a) roundingWords)) ≡ some v
+        → (roundingItems (roundingOf v) ≡ v) × (b && isCeilTorch (roundingOf v) ≡ false)
+    go true q = word-each 2 roundingWords
+        (λ items. (back items ≡ items) × (isCeilTorch (roundingOf items) ≡ false)) ((refl, refl), ((refl, refl), tt)) (wordAt (v .a) roundingWords) v q
+    go false q = (word-back 3 roundingWords back (refl, (refl, (refl, tt))) (wordAt (v .a) roundingWords) v q, refl)

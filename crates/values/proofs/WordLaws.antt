@@ -65,12 +65,17 @@ word-found P (suc left) k table t n each e = go (same (wordAt k table) t) refl e
     go true p q ih = let z : k ≡ n = cc in rw (← z) (same-text (wordAt k table) t p, each .0)
     go false p q ih = ih q
 
+-- what holds of each place of the table holds of a word that was read
+pub word-each : (count : ℕ) (table : List ℕ) (P : Items → Type 0) → Each (λ (k : ℕ). P (oneItem k)) count 0
+    → (t : List ℕ) (v : Items) → lastNumber (wordPlace count table t) ≡ some v → P v
+word-each count table P each t v e =
+    let s = some-last (wordPlace count table t) v e in
+    rw (s .2) (word-found (λ (k : ℕ). P (oneItem k)) count 0 table t (s .0) each (s .1) .1)
+
 -- f gives back the numbers of a word where it gives back each place of the table
 pub word-back : (count : ℕ) (table : List ℕ) (f : Items → Items) → Each (λ (k : ℕ). f (oneItem k) ≡ oneItem k) count 0
     → (t : List ℕ) (v : Items) → lastNumber (wordPlace count table t) ≡ some v → f v ≡ v
-word-back count table f each t v e =
-    let s = some-last (wordPlace count table t) v e in
-    rw (s .2) (word-found (λ (k : ℕ). f (oneItem k) ≡ oneItem k) count 0 table t (s .0) each (s .1) .1)
+word-back count table f each t v e = word-each count table (λ items. f items ≡ items) each t v e
 
 -- ---- a byte that a text does not have stands in no part of it
 absent-parts : (b : ℕ) (u v : List ℕ) → place b (u ++ v) ≡ length (u ++ v) → (place b u ≡ length u) × (place b v ≡ length v)

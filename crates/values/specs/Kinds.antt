@@ -11,7 +11,7 @@ use Rattle.layer.specs.declared.Op.the-variants.{Convolution, Transposed, MaxPo
 use Rattle.layer.specs.declared.AutoPad.{AutoPad}
 use Rattle.layer.specs.declared.AutoPad.the-variants.{Explicit, SameUpper, SameLower, Valid}
 use Rattle.layer.specs.declared.Rounding.{Rounding}
-use Rattle.layer.specs.declared.Rounding.the-variants.{Floor, Ceil}
+use Rattle.layer.specs.declared.Rounding.the-variants.{Floor, Ceil, CeilTorch}
 use Rattle.values.specs.Values.{signed}
 
 -- "op is convolution, transposed or maxpool"
@@ -33,13 +33,14 @@ autoPadItems SameUpper = oneItem 1
 autoPadItems SameLower = oneItem 2
 autoPadItems Valid = oneItem 3
 
--- "rounding floor or ceil"
+-- "rounding floor, ceil or, at version 14, ceil_torch"
 abbrev pub roundingOf : Items → Rounding
-roundingOf items = cond (eqb (items .a) 0) Floor Ceil
+roundingOf items = cond (eqb (items .a) 0) Floor (cond (eqb (items .a) 1) Ceil CeilTorch)
 
 abbrev pub roundingItems : Rounding → Items
 roundingItems Floor = oneItem 0
 roundingItems Ceil = oneItem 1
+roundingItems CeilTorch = oneItem 2
 
 -- "axis is -9..9 in one digit": what is no digit gives 0, and `negsuc n` is the number -(n + 1)
 abbrev pub axisOf : Items → ℤ

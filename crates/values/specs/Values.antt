@@ -12,7 +12,11 @@ use Rattle.text.specs.declared.Items.{Items}
 use Rattle.layer.specs.Axes.{axesIn}
 use Rattle.values.specs.Words.{wordAt, wordPlace}
 use Rattle.values.specs.declared.Field.{Field}
-use Rattle.values.specs.declared.Field.the-variants.{OpWord, AxesNumber, NumberList, AutoPadWord, RoundingWord, AxisDigit}
+use Rattle.values.specs.declared.Field.the-variants.{VersionWord, OpWord, AxesNumber, NumberList, AutoPadWord, RoundingWord, AxisDigit}
+
+-- "`version=14`": the one version that a line has
+abbrev pub versionWords : List ℕ
+versionWords = text "14"
 
 -- "op is convolution, transposed or maxpool"
 abbrev pub opWords : List ℕ
@@ -22,28 +26,34 @@ opWords = text "convolution,transposed,maxpool"
 abbrev pub autoPadWords : List ℕ
 autoPadWords = text "explicit,same_upper,same_lower,valid"
 
--- "rounding floor or ceil"
+-- "rounding floor, ceil or, at version 14, ceil_torch"
 abbrev pub roundingWords : List ℕ
-roundingWords = text "floor,ceil"
+roundingWords = text "floor,ceil,ceil_torch"
+
+-- "22 unknown word, ceil_torch at version 8 included": how many of them a version knows
+abbrev pub roundingCount : ℕ → ℕ
+roundingCount version = cond (eqb version 8) 2 3
 
 -- the table of a field's words, and how many it has; a field of numbers has none
 abbrev pub words : Field → List ℕ
+words VersionWord = versionWords
 words OpWord = opWords
 words AxesNumber = []
 words (NumberList count) = []
 words AutoPadWord = autoPadWords
-words RoundingWord = roundingWords
+words (RoundingWord version) = roundingWords
 words AxisDigit = []
 
 abbrev pub wordCount : Field → ℕ
+wordCount VersionWord = 1
 wordCount OpWord = 3
 wordCount AxesNumber = 0
 wordCount (NumberList count) = 0
 wordCount AutoPadWord = 4
-wordCount RoundingWord = 2
+wordCount (RoundingWord version) = roundingCount version
 wordCount AxisDigit = 0
 
--- "axes other than 1, 2 and 3 included"
+-- "axes other than 1, 2 and 3 .. included"
 unfoldable pub axesNumber : Option ℕ → Option ℕ
 axesNumber none = none
 axesNumber (some n) = cond (axesIn n) (some n) none
@@ -68,29 +78,32 @@ showAxis items = cond (eqb (items .b) 0) (decimal (items .a)) (45 ∷ decimal (i
 
 -- what a text spells
 unfoldable pub fieldValue : Field → List ℕ → Option Items
+fieldValue VersionWord t = lastNumber (wordPlace (wordCount VersionWord) (words VersionWord) t)
 fieldValue OpWord t = lastNumber (wordPlace (wordCount OpWord) (words OpWord) t)
 fieldValue AxesNumber t = lastNumber (axesNumber (number t))
 fieldValue (NumberList count) t = numbers count t
 fieldValue AutoPadWord t = lastNumber (wordPlace (wordCount AutoPadWord) (words AutoPadWord) t)
-fieldValue RoundingWord t = lastNumber (wordPlace (wordCount RoundingWord) (words RoundingWord) t)
+fieldValue (RoundingWord version) t = lastNumber (wordPlace (wordCount (RoundingWord version)) (words (RoundingWord version)) t)
 fieldValue AxisDigit t = axisNumber t
 
 -- the text of a value
 unfoldable pub showField : Field → Items → List ℕ
+showField VersionWord items = wordAt (items .a) (words VersionWord)
 showField OpWord items = wordAt (items .a) (words OpWord)
 showField AxesNumber items = decimal (items .a)
 showField (NumberList count) items = showNumbers count items
 showField AutoPadWord items = wordAt (items .a) (words AutoPadWord)
-showField RoundingWord items = wordAt (items .a) (words RoundingWord)
+showField (RoundingWord version) items = wordAt (items .a) (words (RoundingWord version))
 showField AxisDigit items = showAxis items
 
--- "21 a number, or a count of numbers, that breaks the rules"; "22 unknown word"
+-- "21 a number, or a count of numbers, that breaks the rules, .. and a version line other than `version=14` included"; "22 unknown word"
 abbrev pub unread : Field → ℕ
+unread VersionWord = 21
 unread OpWord = 22
 unread AxesNumber = 21
 unread (NumberList count) = 21
 unread AutoPadWord = 22
-unread RoundingWord = 22
+unread (RoundingWord version) = 22
 unread AxisDigit = 21
 
 -- the default of a line that only some operators use: "output padding 0" on every axis, "rounding floor", which is the first word, "axis 0"

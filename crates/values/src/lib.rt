@@ -22,16 +22,17 @@ ghost use Rattle.text.specs.Lists.{numbersRead, lastNumber};
 ghost use Rattle.text.specs.Numbers.{number};
 ghost use Rattle.print.specs.Put.{Put};
 ghost use Rattle.values.specs.Words.{laterWords, wordAt, wordPlace};
-ghost use Rattle.values.specs.Values.{words, wordCount, axesNumber, signed, digitFrom, axisNumber, showAxis, fieldValue, showField, unread, isDefaultValue};
+ghost use Rattle.values.specs.Values.{roundingCount, words, wordCount, axesNumber, signed, digitFrom, axisNumber, showAxis, fieldValue, showField, unread, isDefaultValue};
 ghost use Rattle.values.specs.Kinds.{opOf, opItems, autoPadOf, autoPadItems, roundingOf, roundingItems, axisOf, axisItems};
 
-// What a line's value is: a word of a table, the number of axes, a list of so many numbers, or an axis.
+// What a line's value is: a word of a table (of roundings, those that a version knows), the number of axes, a list of so many numbers, or an axis.
 pub enum Field {
+    VersionWord,
     OpWord,
     AxesNumber,
     NumberList(usize),
     AutoPadWord,
-    RoundingWord,
+    RoundingWord(u32),
     AxisDigit,
 }
 
@@ -89,16 +90,28 @@ fn word_place(t: &[u8], table: &[u8], count: u32) -> Numbers
     Numbers::NoNumbers
 }
 
+// How many roundings a version knows.
+fn rounding_count(version: u32) -> u32
+    ensures { λ r. ⌜ r ≡ roundingCount version ⌝ }
+{
+    if version == 8 { 2 } else { 3 }
+}
+
 // The place of a word in the table of its field. The tables stand in functions of their own, so that reading a list does not take their stack.
 fn read_word(t: &[u8], field: Field) -> Numbers
     ensures { λ r. ⌜ numbersRead r ≡ lastNumber (wordPlace (wordCount field) (words field) (now (t .entry))) ⌝ }
 {
     match field {
+        Field::VersionWord => word_place(t, b"14", 1),
         Field::OpWord => word_place(t, b"convolution,transposed,maxpool", 3),
         Field::AxesNumber => Numbers::NoNumbers,
         Field::NumberList(_) => Numbers::NoNumbers,
         Field::AutoPadWord => word_place(t, b"explicit,same_upper,same_lower,valid", 4),
-        Field::RoundingWord => word_place(t, b"floor,ceil", 2),
+        Field::RoundingWord(version) => word_place(
+            t,
+            b"floor,ceil,ceil_torch",
+            rounding_count(version),
+        ),
         Field::AxisDigit => Numbers::NoNumbers,
     }
 }
@@ -108,6 +121,7 @@ fn put_word(buf: &mut [u8], at: usize, field: Field, place: u32) -> usize
     ensures { λ r. ⌜ Put (now (buf .entry)) at (wordAt place (words field)) r (now (buf .exit)) ⌝ }
 {
     match field {
+        Field::VersionWord => put_text(buf, at, word_at(b"14", place)),
         Field::OpWord => put_text(buf, at, word_at(b"convolution,transposed,maxpool", place)),
         Field::AxesNumber => put_text(buf, at, word_at(b"", place)),
         Field::NumberList(_) => put_text(buf, at, word_at(b"", place)),
@@ -116,7 +130,7 @@ fn put_word(buf: &mut [u8], at: usize, field: Field, place: u32) -> usize
             at,
             word_at(b"explicit,same_upper,same_lower,valid", place),
         ),
-        Field::RoundingWord => put_text(buf, at, word_at(b"floor,ceil", place)),
+        Field::RoundingWord(_) => put_text(buf, at, word_at(b"floor,ceil,ceil_torch", place)),
         Field::AxisDigit => put_text(buf, at, word_at(b"", place)),
     }
 }
@@ -170,11 +184,12 @@ pub fn value_of(t: &[u8], field: Field) -> Numbers
     ensures { λ r. ⌜ numbersRead r ≡ fieldValue field (now (t .entry)) ⌝ }
 {
     match field {
+        Field::VersionWord => read_word(t, field),
         Field::OpWord => read_word(t, field),
         Field::AxesNumber => axes_number(t),
         Field::NumberList(count) => read_numbers(t, count),
         Field::AutoPadWord => read_word(t, field),
-        Field::RoundingWord => read_word(t, field),
+        Field::RoundingWord(_) => read_word(t, field),
         Field::AxisDigit => axis_number(t),
     }
 }
@@ -184,11 +199,12 @@ pub fn unread_number(field: Field) -> u32
     ensures { λ r. ⌜ r ≡ unread field ⌝ }
 {
     match field {
+        Field::VersionWord => 21,
         Field::OpWord => 22,
         Field::AxesNumber => 21,
         Field::NumberList(_) => 21,
         Field::AutoPadWord => 22,
-        Field::RoundingWord => 22,
+        Field::RoundingWord(_) => 22,
         Field::AxisDigit => 21,
     }
 }
@@ -216,11 +232,12 @@ pub fn put_value(buf: &mut [u8], at: usize, field: Field, items: Items) -> usize
     ensures { λ r. ⌜ Put (now (buf .entry)) at (showField field items) r (now (buf .exit)) ⌝ }
 {
     match field {
+        Field::VersionWord => put_word(buf, at, field, items.a),
         Field::OpWord => put_word(buf, at, field, items.a),
         Field::AxesNumber => put_number(buf, at, items.a),
         Field::NumberList(count) => put_numbers(buf, at, count, items),
         Field::AutoPadWord => put_word(buf, at, field, items.a),
-        Field::RoundingWord => put_word(buf, at, field, items.a),
+        Field::RoundingWord(_) => put_word(buf, at, field, items.a),
         Field::AxisDigit => put_axis(buf, at, items),
     }
 }
@@ -281,7 +298,10 @@ pub fn rounding_of(items: Items) -> Rounding
     if items.a == 0 {
         return Rounding::Floor;
     }
-    Rounding::Ceil
+    if items.a == 1 {
+        return Rounding::Ceil;
+    }
+    Rounding::CeilTorch
 }
 
 pub fn rounding_items(rounding: Rounding) -> Items
@@ -290,6 +310,7 @@ pub fn rounding_items(rounding: Rounding) -> Items
     match rounding {
         Rounding::Floor => one_item(0),
         Rounding::Ceil => one_item(1),
+        Rounding::CeilTorch => one_item(2),
     }
 }
 

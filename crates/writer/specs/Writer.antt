@@ -1,4 +1,4 @@
--- The writer's answer, and what it leaves in the buffer; the line `op=` has the number `first`.
+-- The writer's answer, and what it leaves in the buffer.
 use Prim.Native.Nat.{ℕ}
 use mathlib.Core.List.{List, _++_}
 use mathlib.Core.Bool.{cond}
@@ -24,9 +24,9 @@ unfoldable pub answer : Fault → Layer → ℕ → Written
 answer (At number line) l room = notWritten number line
 answer Fine l room = cond (leb (length (showSheet l)) room) (written (length (showSheet l))) (notWritten 24 0)
 
--- the answer, for a buffer of so many bytes
-unfoldable pub writeLines : ℕ → Layer → ℕ → Written
-writeLines first l room = answer (faultOf first l) l room
+-- what writing a layer answers, for a buffer of so many bytes
+unfoldable pub writeSheet : Layer → ℕ → Written
+writeSheet l room = answer (faultOf l) l room
 
 -- "Otherwise it writes from the start, tells the sheet's length and touches nothing beyond." A refused write: "Any number but 0 leaves all lent
 -- memory at its entry contents."
@@ -35,5 +35,5 @@ leave (At number line) l buffer = buffer
 leave Fine l buffer = cond (leb (length (showSheet l)) (length buffer)) (showSheet l ++ drop (length (showSheet l)) buffer) buffer
 
 -- what the buffer holds after the write
-unfoldable pub linesAfter : ℕ → Layer → List ℕ → List ℕ
-linesAfter first l buffer = leave (faultOf first l) l buffer
+unfoldable pub bufferAfter : Layer → List ℕ → List ℕ
+bufferAfter l buffer = leave (faultOf l) l buffer

@@ -1,4 +1,4 @@
-// The writer of a layer's sheet into a lent buffer. Line numbers are counted from `first`, that of the line `op=`.
+// The writer of a layer's sheet into a lent buffer.
 use faults::Fault;
 use faults::fault_of;
 use fields::axis_list;
@@ -21,9 +21,9 @@ ghost use Rattle.print.specs.Put.{Put};
 ghost use Rattle.values.specs.Values.{showField};
 ghost use Rattle.lines.specs.Form.{layer, showForm};
 ghost use Rattle.fields.specs.Layers.{axisList};
-ghost use Rattle.fields.specs.Sheet.{firstLines, sizeLines, padLines, lastLines, sheetValues, showSheet};
+ghost use Rattle.fields.specs.Sheet.{firstLines, sizeLines, padLines, lastLines, sheetValues, versionLine, showSheet};
 ghost use Rattle.faults.specs.Faults.{faultOf};
-ghost use Rattle.writer.specs.Writer.{notWritten, writeLines, linesAfter};
+ghost use Rattle.writer.specs.Writer.{notWritten, writeSheet, bufferAfter};
 
 // What writing a sheet gives: 0 and the sheet's length, or the number and the line of a refusal.
 pub struct Written {
@@ -42,9 +42,19 @@ fn put_axes(buf: &mut [u8], at: usize, key: &[u8], axes: u32, z: u32, y: u32, x:
     put_line(buf, at, key, list, axis_list(axes, z, y, x))
 }
 
+// The version line, which a sheet of the default version does not have.
+fn put_version(buf: &mut [u8], at: usize, version: u32) -> usize
+    ensures { λ r. ⌜ Put (now (buf .entry)) at (versionLine version) r (now (buf .exit)) ⌝ }
+{
+    if version == Layer::VERSION {
+        return at;
+    }
+    put_line(buf, at, b"version=", Field::VersionWord, one_item(0))
+}
+
 // The lines op, axes and input.
 fn put_first(buf: &mut [u8], at: usize, l: Layer) -> usize
-    ensures { λ r. ⌜ Put (now (buf .entry)) at (showForm (firstLines λ op axes input. layer l) (sheetValues l)) r (now (buf .exit)) ⌝ }
+    ensures { λ r. ⌜ Put (now (buf .entry)) at (showForm (firstLines (l .version) λ op axes input. layer l) (sheetValues l)) r (now (buf .exit)) ⌝ }
 {
     let op = l.op;
     let axes = l.axes;
@@ -115,7 +125,7 @@ fn put_pads(buf: &mut [u8], at: usize, l: Layer) -> usize
 
 // The lines output_padding, rounding and axis.
 fn put_last(buf: &mut [u8], at: usize, l: Layer) -> usize
-    ensures { λ r. ⌜ Put (now (buf .entry)) at (showForm (lastLines (l .op) (l .axes) λ padding rounding axis. layer l) (drop 9 (sheetValues l))) r (now (buf .exit)) ⌝ }
+    ensures { λ r. ⌜ Put (now (buf .entry)) at (showForm (lastLines (l .version) (l .op) (l .axes) λ padding rounding axis. layer l) (drop 9 (sheetValues l))) r (now (buf .exit)) ⌝ }
 {
     let z = l.z.output_padding;
     let y = l.y.output_padding;
@@ -124,14 +134,16 @@ fn put_last(buf: &mut [u8], at: usize, l: Layer) -> usize
     let axis = l.axis;
     let word = rounding_items(rounding);
     let at10 = put_axes(buf, at, b"output_padding=", l.axes, z, y, x);
-    let at11 = put_line(buf, at10, b"rounding=", Field::RoundingWord, word);
+    let rounding_word = Field::RoundingWord(l.version);
+    let at11 = put_line(buf, at10, b"rounding=", rounding_word, word);
     put_line(buf, at11, b"axis=", Field::AxisDigit, axis_items(axis))
 }
 
-// The sheet of a layer, from a place on, by threes: functions that are called one after another share the stack.
-fn put_sheet(buf: &mut [u8], at0: usize, l: Layer) -> usize
-    ensures { λ r. ⌜ Put (now (buf .entry)) at0 (showSheet l) r (now (buf .exit)) ⌝ }
+// The sheet of a layer, from a place on, after its version line by threes: functions that are called one after another share the stack.
+fn put_sheet(buf: &mut [u8], at: usize, l: Layer) -> usize
+    ensures { λ r. ⌜ Put (now (buf .entry)) at (showSheet l) r (now (buf .exit)) ⌝ }
 {
+    let at0 = put_version(buf, at, l.version);
     let at3 = put_first(buf, at0, l);
     let at6 = put_sizes(buf, at3, l);
     let at9 = put_pads(buf, at6, l);
@@ -151,10 +163,10 @@ fn not_written(number: u32, line: u32) -> Written
 }
 
 // A layer that a sheet can show. The first pass, over a buffer of one byte, tells the sheet's length, so that a refusal writes nothing.
-fn write_fine(first: u8, l: Layer, buf: &mut [u8]) -> Written
-    requires { ⌜ faultOf first l ≡ Fault.Fine ⌝ }
-    ensures { λ r. ⌜ r ≡ writeLines first l (length (now (buf .entry))) ⌝ }
-    ensures { λ r. ⌜ now (buf .exit) ≡ linesAfter first l (now (buf .entry)) ⌝ }
+fn write_fine(l: Layer, buf: &mut [u8]) -> Written
+    requires { ⌜ faultOf l ≡ Fault.Fine ⌝ }
+    ensures { λ r. ⌜ r ≡ writeSheet l (length (now (buf .entry))) ⌝ }
+    ensures { λ r. ⌜ now (buf .exit) ≡ bufferAfter l (now (buf .entry)) ⌝ }
 {
     let mut scratch = [0u8; 1];
     let size = put_sheet(&mut scratch, 0, l);
@@ -170,12 +182,12 @@ fn write_fine(first: u8, l: Layer, buf: &mut [u8]) -> Written
 }
 
 // The sheet from the buffer's start, or a refusal with the buffer as it was.
-pub fn write_lines(first: u8, layer: Layer, buf: &mut [u8]) -> Written
-    ensures answer { λ r. ⌜ r ≡ writeLines first layer (length (now (buf .entry))) ⌝ }
-    ensures contents { λ r. ⌜ now (buf .exit) ≡ linesAfter first layer (now (buf .entry)) ⌝ }
+pub fn write_lines(layer: Layer, buf: &mut [u8]) -> Written
+    ensures answer { λ r. ⌜ r ≡ writeSheet layer (length (now (buf .entry))) ⌝ }
+    ensures contents { λ r. ⌜ now (buf .exit) ≡ bufferAfter layer (now (buf .entry)) ⌝ }
 {
-    match fault_of(first, layer) {
+    match fault_of(layer) {
         Fault::At(number, line) => not_written(number, line),
-        Fault::Fine => write_fine(first, layer, buf),
+        Fault::Fine => write_fine(layer, buf),
     }
 }

@@ -6,11 +6,11 @@ use Rattle.faults.proofs.FaultLaws.{steps}
 use Rattle.faults.proofs.pad_fault.Statement.{statement}
 use Rattle.faults.proofs.pad_fault.Tie as tie
 
-returns-6 : tie.Need-returns-6
-returns-6 c =
-    let a = c .before .before .before .before .before .before .before .before .before .before .before in
-    let e = rw (toZ-ofZ {w = w32} {z = a .before .before .before .before .args .l .axis} (record { sfits = a .struct-told .given .1 .1 .1 .1 .1 .1 .1 .1 .1 .1 .1 .1 .0 .1 })) at (c .axis-fault .ensures) in
-    search steps
+returns-7 : tie.Need-returns-7
+returns-7 c =
+    let a = c .before .before .before .before .before .before .before .before .before .before .before .before .before in
+    let e = rw (toZ-ofZ {w = w32} {z = a .before .before .before .before .args .l .axis} (record { sfits = a .struct-told .given .1 .1 .1 .1 .1 .1 .1 .1 .1 .1 .1 .1 .1 .0 .1 })) at (c .axis-fault .ensures) in
+    search steps depth 7
 
 pub pad-fault-spec : {M : Type 1} → statement M
 pad-fault-spec =
@@ -19,4 +19,4 @@ pad-fault-spec =
     (λ c κs. search needs) (λ c. search needs) (λ c. search steps) (λ c κs. search needs) (λ c. search needs)
     (λ c. search steps) (λ c κs. search needs) (λ c. search needs) (λ c. search steps) (λ c κs. search needs)
     (λ c. search needs) (λ c. search steps) (λ c κs. search needs) (λ c. search needs) (λ c. search steps)
-    (λ c κs. search needs) returns-6)
+    (λ c κs. search needs) (λ c. search needs) (λ c. search steps depth 6) (λ c κs. search needs) returns-7)

@@ -6,24 +6,24 @@ use mir.Syntax.{w32}
 use mathlib.Core.Path.{sym, ap, _∙_}
 use Rattle.lines.specs.declared.Read.the-variants.{Sheet}
 use Rattle.lines.proofs.StepLaws.{left-over, nothing-after}
-use Rattle.fields.specs.Sheet.{sheetForm}
+use Rattle.fields.specs.Sheet.{twelveLines}
 use Rattle.reader.proofs.ThreeLaws.{bad-three, good-three}
 use Rattle.reader.proofs.read_lines.Statement.{statement}
 use Rattle.reader.proofs.read_lines.Tie as tie
 
 returns : tie.Need-returns
-unfolding sheetForm
+unfolding twelveLines
 returns c =
     bad-three _ (c .before .before .before .read-first .ensures _) (c .before .enum-told .given .1) (c .not-read .ensures)
 
 returns-2 : tie.Need-returns-2
-unfolding sheetForm
+unfolding twelveLines
 returns-2 c =
     let c1 = c .before .before .before .before .before .before in
     bad-three _ (good-three _ (c1 .before .before .read-first .ensures _) (c1 .r3 .given .1) ∙ (rw (c .before .before .before .before .op-of .ensures) at (c .before .before .before .read-sizes .ensures)) _) (c .before .enum-told2 .given .1) (c .not-read2 .ensures)
 
 returns-3 : tie.Need-returns-3
-unfolding sheetForm
+unfolding twelveLines
 returns-3 c =
     let c2 = c .before .before .before .before .before .before in
     let c1 = c2 .before .before .before .before .before in
@@ -32,7 +32,7 @@ returns-3 c =
     c .before .before .before .read-pads .ensures _) (c .before .enum-told3 .given .1) (c .not-read3 .ensures)
 
 returns-4 : tie.Need-returns-4
-unfolding sheetForm
+unfolding twelveLines
 returns-4 c =
     let c3 = c .before .before .before .before .before in
     let c2 = c3 .before .before .before .before .before in
@@ -43,7 +43,7 @@ returns-4 c =
     (rw (c2 .before .before .before .op-of .ensures) at (c .before .before .before .read-last .ensures)) _) (c .before .enum-told4 .given .1) (c .not-read4 .ensures)
 
 returns-5 : tie.Need-returns-5
-unfolding sheetForm
+unfolding twelveLines
 returns-5 c =
     let c4 = c .before .before in
     let c3 = c4 .before .before .before .before in
@@ -56,7 +56,7 @@ returns-5 c =
     left-over _ _ _ _ (c .if1 .taken))
 
 returns-6 : tie.Need-returns-6
-unfolding sheetForm
+unfolding twelveLines
 returns-6 c =
     let c4 = c .before .before .before .before .before .before in
     let c3 = c4 .before .before .before .before in

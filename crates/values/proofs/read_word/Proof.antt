@@ -8,11 +8,12 @@ use Rattle.values.proofs.read_word.Tie as tie
 pub read-word-spec : {M : Type 1} → statement M
 unfolding lastNumber wordFrom
 read-word-spec = tie.close (tie.spec
-    (λ c. search needs) (λ c. search needs) (λ c κs. search needs) (λ c. search needs) (λ c. search needs) (λ c. search needs)
-    (λ c. search needs) (λ c κs. search needs) (λ c. search needs) (λ c. search needs) (λ c κs. search needs) (λ c. search needs)
+    (λ c. search needs) (λ c. search needs) (λ c κs. search needs) (λ c. search needs) (λ c. search needs) (λ c κs. search needs) (λ c. search needs) (λ c. search needs) (λ c. search needs) (λ c. search needs) (λ c κs. search needs)
+    (λ c. search needs) (λ c. search needs) (λ c κs. search needs) (λ c κs. search needs) (λ c. search needs)
     (λ c. rw (c .before .before .enum-told .given .1) (c .word-place .ensures))
-    (λ c. rw (c .enum-told2 .given .1))
+    (λ c. rw (c .before .before .enum-told2 .given .1) (c .word-place2 .ensures))
     (λ c. rw (c .enum-told3 .given .1))
-    (λ c. rw (c .before .before .enum-told4 .given .1) (c .word-place2 .ensures))
+    (λ c. rw (c .enum-told4 .given .1))
     (λ c. rw (c .before .before .enum-told5 .given .1) (c .word-place3 .ensures))
+    (λ c. rw (c .before .before .before .before .field .given .1, ← c .before .rounding-count .ensures) (c .word-place4 .ensures))
     (λ c. rw (c .enum-told6 .given .1)))

@@ -16,7 +16,7 @@ returns c =
     let b = a .before .before .before .before .before .before in
     let d = b .before .before .before .before .before in
     let e = d .before .before .before in
-    let fits = e .before .struct-told .given .1 .1 .1 .1 .1 .1 .1 .1 .1 .1 .1 .1 .0 .1 in
+    let fits = e .before .struct-told .given .1 .1 .1 .1 .1 .1 .1 .1 .1 .1 .1 .1 .1 .0 .1 in
     put-then (d .put-axes .ensures)
     (put-then (rw (e .rounding-items .ensures) at (b .put-line .ensures))
     (rw (append-nil _) (rw (a .before .axis-items .ensures, toZ-ofZ {w = w32} (record { sfits = fits })) at (a .put-line2 .ensures))))

@@ -7,13 +7,13 @@ use Rattle.writer.proofs.write_fine.Tie as tie
 returns : tie.Need-returns
 returns c =
     let a = c .before .before .before in
-    short-result _ _ _ (a .before .before .before .pre) (a .put-sheet .ensures .next-is) (c .before .if1 .taken) (c .not-written .ensures)
+    short-result _ _ (a .before .before .before .pre) (a .put-sheet .ensures .next-is) (c .before .if1 .taken) (c .not-written .ensures)
 
 returns-2 : tie.Need-returns-2
 returns-2 c =
     let a = c .before .before .before .before in
     let b = a .before .before in
-    put-result _ _ _ (b .before .before .before .pre) (b .put-sheet .ensures .next-is) (a .if1 .left) (c .before .before .put-sheet2 .ensures)
+    put-result _ _ (b .before .before .before .pre) (b .put-sheet .ensures .next-is) (a .if1 .left) (c .before .before .put-sheet2 .ensures)
 
 pub write-fine-spec : {M : Type 1} → statement M
 write-fine-spec =

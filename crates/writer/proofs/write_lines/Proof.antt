@@ -9,4 +9,4 @@ write-lines-spec =
     tie.close
     (tie.spec
     (λ c κs. search needs) (λ c. search needs) (λ c κs. search needs) (λ c. search needs) (λ c κs. cc)
-    (λ c. fault-result _ _ _ (cc) (c .not-written .ensures)) (λ c. search needs) (λ c. search needs))
+    (λ c. fault-result _ _ (cc) (c .not-written .ensures)) (λ c. search needs) (λ c. search needs))
