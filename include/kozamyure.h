@@ -1,7 +1,8 @@
 /* Kozamyure: convolution, transposed convolution and max pooling with indices over lent f32 tensors.
  *
- * Every call takes the text of a layer sheet (twelve key=value lines, see README.md) and lent memory. No caller need check sheet, sizes, lengths or elements
- * first: every call is answered, and a call whose number is not 0 leaves every lent buffer as it was.
+ * Every call takes the text of a layer sheet and lent memory. A sheet has twelve key=value lines, and for MaxPool-14 a line version=14 in front of them; see
+ * README.md. No caller need check sheet, sizes, lengths or elements first: every call is answered, and a call whose number is not 0 leaves every lent buffer as
+ * it was.
  *
  * What is proved holds under these assumptions, which no call can check:
  *  - A pointer is good for its length, and aligned for its element (4 bytes for float, 8 for int64_t). Lengths count elements, not bytes. A pointer may be
@@ -30,7 +31,7 @@ extern "C" {
 
 /* The version of this header. koza_version() tells that of the archive: a program that was compiled with another header finds out. */
 #define KOZA_VERSION_MAJOR 2
-#define KOZA_VERSION_MINOR 0
+#define KOZA_VERSION_MINOR 1
 #define KOZA_VERSION_PATCH 0
 #define KOZA_VERSION (KOZA_VERSION_MAJOR * 10000 + KOZA_VERSION_MINOR * 100 + KOZA_VERSION_PATCH)
 
@@ -72,10 +73,11 @@ static inline const char *koza_text(uint32_t number) {
     case KOZA_EMPTY_WINDOW: return "pooling: some window holds no element";
     case KOZA_LENGTH: return "a buffer's length is not exactly its element count (elements, not bytes: koza_lengths tells them)";
     case KOZA_BAD_ELEMENT: return "an element above 2^40 in magnitude or NaN";
-    case KOZA_SHEET_KEY: return "the sheet: a wrong key or no line end, or bytes left over (line 13)";
-    case KOZA_SHEET_NUMBER: return "the sheet: a number, or a count of numbers, that breaks the rules";
-    case KOZA_SHEET_WORD: return "the sheet: an unknown word";
-    case KOZA_SHEET_UNUSED: return "the sheet: a line that its operator does not use is not at its default";
+    case KOZA_SHEET_KEY: return "the sheet: a wrong key or no line end, or bytes left over (line 13, or 14 with a version line)";
+    case KOZA_SHEET_NUMBER: return "the sheet: a number, or a count of numbers, that breaks the rules, or a version line other than version=14";
+    case KOZA_SHEET_WORD: return "the sheet: an unknown word, as is ceil_torch without a version line";
+    case KOZA_SHEET_UNUSED:
+        return "the sheet: a line that its operator does not use is not at its default, or a version line before another operator than maxpool";
     case KOZA_SHEET_ROOM: return "the buffer is shorter than the sheet";
     default: return "no number of this library";
     }
@@ -83,8 +85,8 @@ static inline const char *koza_text(uint32_t number) {
 
 /* ---- answers: what a number does not use is 0 */
 
-/* `line` for 20 to 23; for 9 `tensor` (0 input, looked at first; 1 kernel), the first bad `place` in it and how many of its elements are `bad`. The kernel is
- * not looked at when the input is bad. */
+/* `line` for 20 to 23, counted from the sheet's first line, which may be a version line; for 9 `tensor` (0 input, looked at first; 1 kernel), the first bad
+ * `place` in it and how many of its elements are `bad`. The kernel is not looked at when the input is bad. */
 typedef struct {
     uint32_t number, line, tensor;
     size_t place, bad;
@@ -134,7 +136,7 @@ koza_answer koza_convolution(const uint8_t *sheet, size_t sheet_len, const float
 koza_answer koza_transposed(const uint8_t *sheet, size_t sheet_len, const float *input, size_t input_len, const float *kernel, size_t kernel_len,
                             float *output, size_t output_len);
 
-/* Input [N, C, Z, Y, X]; values and indices [N, C, OZ, OY, OX]. */
+/* Input [N, C, Z, Y, X]; values and indices [N, C, OZ, OY, OX]. MaxPool-8, or MaxPool-14 where the sheet has a version line. */
 koza_answer koza_maxpool(const uint8_t *sheet, size_t sheet_len, const float *input, size_t input_len, float *values, size_t values_len, int64_t *indices,
                          size_t indices_len);
 

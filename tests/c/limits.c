@@ -178,10 +178,14 @@ static const struct {
 
 typedef struct {
     enum op op;
-    int axes, axis;
+    int axes, axis, version; /* version 8: no version line */
     const char *auto_pad, *rounding;
     uint64_t field[FIELDS];
 } layer;
+
+static words layer_words(const layer *l) {
+    return say("%s, version %d, axes %d, %s, %s", OP_NAMES[l->op], l->version, l->axes, l->auto_pad, l->rounding);
+}
 
 /* The place of a field's axis in Z, Y, X; 2 for a field of no axis, which every number of axes has. */
 static int axis_of(enum field f) {
@@ -198,7 +202,7 @@ static int is_pad(enum field f) {
 
 /* Where the tests start from: every operator takes it. Its pads, two strides and two dilations are not the defaults. */
 static layer base(enum op op, int axes) {
-    layer l = {op, axes, 0, "explicit", "floor",
+    layer l = {op, axes, 0, 8, "explicit", "floor",
                {[N] = 2, [C] = 4, [G] = 2, [O] = 3, [I] = 2, [Z] = 4, [Y] = 6, [X] = 7, [KZ] = 2, [KY] = 3, [KX] = 2, [SZ] = 3, [SY] = 2, [SX] = 1,
                 [DZ] = 2, [DY] = 1, [DX] = 2, [BZ] = 1, [BY] = 1, [BX] = 1, [EZ] = 1, [EY] = 1, [EX] = 1}};
     if (op == TRANSPOSED)
@@ -209,6 +213,18 @@ static layer base(enum op op, int axes) {
         if (!in_sheet(&l, (enum field)f))
             l.field[f] = f < BZ; /* pads and output padding 0, all else 1 */
     return l;
+}
+
+/* The same of MaxPool-14. */
+static layer base_14(int axes) {
+    layer l = base(MAXPOOL, axes);
+    l.version = 14;
+    return l;
+}
+
+/* The number of a line that a sheet of version 8 has at `line`. */
+static uint32_t line_of(const layer *l, uint32_t line) {
+    return l->version == 8 ? line : line + 1;
 }
 
 static int is_same(const layer *l) {
@@ -227,7 +243,8 @@ static int put_list(char *to, const layer *l, const char *key, const enum field 
 
 /* The layer's sheet, its length returned. */
 static size_t write_layer(char *to, const layer *l) {
-    int n = sprintf(to, "op=%s\naxes=%d\n", OP_NAMES[l->op], l->axes);
+    int n = l->version == 8 ? 0 : sprintf(to, "version=%d\n", l->version);
+    n += sprintf(to + n, "op=%s\naxes=%d\n", OP_NAMES[l->op], l->axes);
     LIST("input=", N, C, Z, Y, X);
     if (l->op == TRANSPOSED)
         LIST("kernel=", G, I, O, KZ, KY, KX);
@@ -247,18 +264,17 @@ static size_t write_layer(char *to, const layer *l) {
 /* Along Z (0), Y (1) or X (2). */
 static uint64_t size_along(const layer *l, int axis) {
     const uint64_t *f = l->field + axis;
-    uint64_t in = f[Z], s = f[SZ], k = (f[KZ] - 1) * f[DZ] + 1, pads = f[BZ] + f[EZ];
-    if (strcmp(l->auto_pad, "explicit") != 0)
-        pads = 0;
+    int explicit = strcmp(l->auto_pad, "explicit") == 0;
+    uint64_t in = f[Z], s = f[SZ], k = (f[KZ] - 1) * f[DZ] + 1, begin = explicit ? f[BZ] : 0, pads = explicit ? begin + f[EZ] : 0;
     if (l->op == TRANSPOSED)
         return (in - 1) * s + k - pads + f[PZ];
     if (is_same(l))
         return (in + s - 1) / s;
-    int ceil = l->op == MAXPOOL && strcmp(l->rounding, "ceil") == 0;
-    if (strcmp(l->auto_pad, "valid") == 0 && !ceil)
+    int torch = strcmp(l->rounding, "ceil_torch") == 0, ceil = torch || strcmp(l->rounding, "ceil") == 0;
+    if (!explicit && !ceil)
         return (in - k + 1 + s - 1) / s;
-    uint64_t room = in + pads - k;
-    return (ceil ? (room + s - 1) / s : room / s) + 1;
+    uint64_t room = in + pads - k, out = (ceil ? (room + s - 1) / s : room / s) + 1;
+    return torch && (out - 1) * s >= in + begin ? out - 1 : out;
 }
 
 static koza_shape_answer shape_of(const layer *l) {
@@ -343,7 +359,7 @@ static void call_operator(enum op op, lengths n, const element *put, size_t puts
 /* A number that the sheet decides: all functions that take the layer's own operator. */
 static void try_layer(const layer *l, uint32_t number) {
     char text[KOZA_SHEET_MAX * 2];
-    uint32_t line = number == 23 ? 10 : 0; /* of the lists, output_padding alone can be unused */
+    uint32_t line = number == 23 ? line_of(l, 10) : 0; /* of the lists, output_padding alone can be unused */
     set_sheet(text, write_layer(text, l));
     call_shape(number == 0 ? shape_of(l) : (koza_shape_answer){.number = number, .line = line});
     call_lengths(number == 0 ? lengths_of(l) : (koza_lengths_answer){.number = number, .line = line});
@@ -403,7 +419,7 @@ static const struct {
 };
 
 static void try_value(layer l, enum field f, uint64_t value, uint32_t number) {
-    about = say("%s, axes %d, %s, %s %" PRIu64, OP_NAMES[l.op], l.axes, l.auto_pad, FIELD[f].name, value);
+    about = say("%s, %s %" PRIu64, layer_words(&l).text, FIELD[f].name, value);
     l.field[f] = value;
     try_layer(&l, number);
 }
@@ -411,10 +427,10 @@ static void try_value(layer l, enum field f, uint64_t value, uint32_t number) {
 /* One number more than a sheet can show. */
 static void try_too_large(layer l, enum field f) {
     char text[KOZA_SHEET_MAX * 2];
-    about = say("%s, axes %d, %s 4294967296", OP_NAMES[l.op], l.axes, FIELD[f].name);
+    about = say("%s, %s 4294967296", layer_words(&l).text, FIELD[f].name);
     l.field[f] = LARGEST + 1;
     set_sheet(text, write_layer(text, &l));
-    try_refused_sheet(21, FIELD[f].line);
+    try_refused_sheet(21, line_of(&l, FIELD[f].line));
 }
 
 static void try_limits(layer l) {
@@ -541,7 +557,7 @@ static void try_combined(void) {
 
 /* A layer in which all is 1 or a default. */
 static layer plain(enum op op, int axes) {
-    layer l = {op, axes, 0, "explicit", "floor", {0}};
+    layer l = {op, axes, 0, 8, "explicit", "floor", {0}};
     for (int f = N; f <= DX; f++)
         l.field[f] = 1;
     return l;
@@ -570,63 +586,114 @@ static void try_channels_of_outputs(enum op op) {
     }
 }
 
-/* ---- words, the axis, another operator's sheet */
+/* ---- roundings, the axis, windows, another operator's sheet */
+
+/* Every rounding of each version; `which` is its place in the tables below. */
+static const struct {
+    int version, which;
+    const char *rounding;
+} ROUNDINGS[] = {{8, 0, "floor"}, {8, 1, "ceil"}, {14, 0, "floor"}, {14, 1, "ceil"}, {14, 2, "ceil_torch"}};
+
+static layer rounded(size_t r, int axes) {
+    layer l = base(MAXPOOL, axes);
+    l.version = ROUNDINGS[r].version;
+    l.rounding = ROUNDINGS[r].rounding;
+    return l;
+}
 
 /* Document 01: axis runs from -R to R - 1, R being the number of axes plus 2; the layer that it belongs to is accepted otherwise. */
 static void try_axis(int axes) {
     for (int axis = -9; axis <= 9; axis++)
-        for (int ceil = 0; ceil < 2; ceil++) {
-            layer l = base(MAXPOOL, axes);
+        for (size_t r = 0; r < COUNT(ROUNDINGS); r++) {
+            layer l = rounded(r, axes);
             l.axis = axis;
-            l.rounding = ceil ? "ceil" : "floor";
-            about = say("maxpool, axes %d, axis %d, %s", axes, axis, l.rounding);
+            about = say("%s, axis %d", layer_words(&l).text, axis);
             try_layer(&l, axis < -(axes + 2) || axis > axes + 1 ? 2 : 0);
         }
 }
 
-/* Max pooling, valid: input, kernel, stride and dilation of one axis, and the number with floor and with ceil. */
+/* Max pooling: input, kernel, stride, dilation and pads of one axis, and with floor, with ceil and with ceil_torch the number and the size. Valid and the same
+ * modes look at no pads. */
 static const struct {
-    uint64_t in, k, s, d;
-    uint32_t number[2];
-} VALID[] = {
-    {4, 1, 4, 1, {0, 7}},       /* ceil: out 2, the second window starts at 4 */
-    {6, 3, 2, 1, {0, 0}},       /* ceil: out 3, the last window holds two elements */
-    {7, 2, 2, 3, {0, 0}},       /* ceil: out 3, the last window holds its first tap alone */
-    {5, 3, 2, 1, {0, 0}},       /* out 2 with either */
-    {2, 2, 16, 1, {0, 0}},      /* in = k': out 1 with either */
-    {2, 3, 1, 1, {5, 5}},       /* in < k' */
-    {3, 2, 1, 3, {5, 5}},
-    {4096, 64, 16, 16, {0, 0}}, /* ceil: out 194, the last window starts at 3,088 */
-    {4096, 1, 16, 1, {0, 7}},   /* ceil: out 257, the last window starts at 4,096 */
+    const char *auto_pad;
+    uint64_t in, k, s, d, begin, end;
+    uint32_t number[3];
+    uint64_t out[3];
+} WINDOWS[] = {
+    {"valid", 4, 1, 4, 1, 1, 1, {0, 7, 0}, {1, 2, 1}},                   /* the second window starts at 4 */
+    {"valid", 6, 3, 2, 1, 1, 1, {0, 0, 0}, {2, 3, 3}},                   /* the last window holds two elements */
+    {"valid", 7, 2, 2, 3, 1, 1, {0, 0, 0}, {2, 3, 3}},                   /* the last window holds its first tap alone */
+    {"valid", 5, 3, 2, 1, 1, 1, {0, 0, 0}, {2, 2, 2}},
+    {"valid", 2, 2, 16, 1, 1, 1, {0, 0, 0}, {1, 1, 1}},                  /* in = k' */
+    {"valid", 2, 3, 1, 1, 1, 1, {5, 5, 5}, {0}},                         /* in < k' */
+    {"valid", 3, 2, 1, 3, 1, 1, {5, 5, 5}, {0}},
+    {"valid", 4096, 64, 16, 16, 1, 1, {0, 0, 0}, {193, 194, 194}},       /* the last window starts at 3,088 */
+    {"valid", 4096, 1, 16, 1, 1, 1, {0, 7, 0}, {256, 257, 256}},         /* the last window starts at 4,096 */
+    {"explicit", 2, 1, 3, 1, 0, 0, {0, 7, 0}, {1, 2, 1}},                /* bench case: the second window starts at 3 */
+    {"explicit", 3, 2, 2, 1, 0, 0, {0, 0, 0}, {1, 2, 2}},                /* bench case: the second window starts at 2, the last element */
+    {"explicit", 3, 2, 2, 1, 1, 1, {0, 7, 0}, {2, 3, 2}},                /* bench case: the third window starts at 3, the input's end */
+    {"explicit", 4, 1, 1, 1, 0, 9, {7, 7, 7}, {13, 13, 12}},             /* bench case: less one, once only */
+    {"explicit", 4, 2, 3, 1, 1, 1, {0, 7, 0}, {2, 3, 2}},                /* the third window starts at 5, past the end */
+    {"explicit", 3, 3, 2, 1, 2, 2, {0, 0, 0}, {3, 3, 3}},                /* the third window starts at 2: the pad at the begin counts */
+    {"explicit", 2, 1, 2, 1, 0, 1, {7, 7, 0}, {2, 2, 1}},                /* less than floor: the second window starts at 2 */
+    {"explicit", 2, 1, 1, 1, 0, 1, {7, 7, 0}, {3, 3, 2}},                /* one window past the end */
+    {"explicit", 2, 1, 1, 1, 0, 2, {7, 7, 7}, {4, 4, 3}},                /* two windows past the end */
+    {"explicit", 3, 2, 4, 2, 0, 4, {7, 7, 0}, {2, 2, 1}},                /* k' 3; the second window starts at 4 */
+    {"explicit", 3, 1, 1, 1, 1, 1, {7, 7, 7}, {5, 5, 4}},                /* the first window is empty too */
+    {"explicit", 1, 1, 16, 1, 0, 0, {0, 0, 0}, {1, 1, 1}},               /* one window stays */
+    {"explicit", 1, 2, 16, 1, 1, 15, {0, 7, 0}, {1, 2, 1}},              /* the second window starts at 15 */
+    {"explicit", 2, 3, 1, 1, 0, 0, {5, 5, 5}, {0}},                      /* P 2 < k' 3 */
+    {"explicit", 4096, 64, 16, 16, 1008, 1008, {0, 7, 0}, {319, 320, 319}}, /* k' 1,009; the last window starts at 4,096 */
+    {"explicit", 4096, 64, 16, 16, 1008, 1024, {7, 7, 7}, {320, 321, 320}}, /* the last two start at 4,096 and 4,112 */
+    {"same_upper", 4, 1, 4, 1, 1, 1, {0, 0, 0}, {1, 1, 1}},              /* explicit ceil has 2 */
+    {"same_lower", 4, 1, 4, 1, 1, 1, {0, 0, 0}, {1, 1, 1}},
+    {"same_upper", 5, 2, 4, 1, 1, 1, {0, 0, 0}, {2, 2, 2}},
 };
 
-/* The pads of the sheet are not the defaults; valid looks at none. */
-static void try_valid(enum field along, int axes) {
-    for (size_t i = 0; i < COUNT(VALID); i++)
-        for (int ceil = 0; ceil < 2; ceil++) {
-            layer l = base(MAXPOOL, axes);
+static void try_windows(enum field along, int axes) {
+    for (size_t i = 0; i < COUNT(WINDOWS); i++)
+        for (size_t r = 0; r < COUNT(ROUNDINGS); r++) {
+            layer l = rounded(r, axes);
             uint64_t *f = l.field + axis_of(along);
-            l.auto_pad = "valid";
-            l.rounding = ceil ? "ceil" : "floor";
-            f[Z] = VALID[i].in;
-            f[KZ] = VALID[i].k;
-            f[SZ] = VALID[i].s;
-            f[DZ] = VALID[i].d;
-            about = say("maxpool, axes %d, valid, %s, %s: in %" PRIu64 ", k %" PRIu64 ", s %" PRIu64, axes, l.rounding, FIELD[along].name, VALID[i].in, VALID[i].k, VALID[i].s);
-            try_layer(&l, VALID[i].number[ceil]);
+            uint32_t number = WINDOWS[i].number[ROUNDINGS[r].which];
+            l.auto_pad = WINDOWS[i].auto_pad;
+            f[Z] = WINDOWS[i].in;
+            f[KZ] = WINDOWS[i].k;
+            f[SZ] = WINDOWS[i].s;
+            f[DZ] = WINDOWS[i].d;
+            f[BZ] = WINDOWS[i].begin;
+            f[EZ] = WINDOWS[i].end;
+            about = say("%s, %s, windows %zu", layer_words(&l).text, FIELD[along].name, i);
+            if (number != 5)
+                check("size_along", say("%" PRIu64, WINDOWS[i].out[ROUNDINGS[r].which]), say("%" PRIu64, size_along(&l, axis_of(along))));
+            try_layer(&l, number);
         }
 }
 
-/* The operator that is called decides what is used: a sheet of another is 2, and 1 where a size that both use is outside. */
-static void try_other_operators(enum op of, int axes) {
+/* 2^14 channels of 1,024 elements and a pad at the end: ceil has 1,025 windows in each, so 6, and ceil_torch 2^24 outputs in all. */
+static void try_most_outputs(void) {
     char text[KOZA_SHEET_MAX * 2];
-    layer l = base(of, axes);
+    for (int torch = 0; torch < 2; torch++) {
+        layer l = plain(MAXPOOL, 1);
+        l.version = 14;
+        l.rounding = torch ? "ceil_torch" : "ceil";
+        l.field[N] = 16, l.field[C] = l.field[X] = 1024, l.field[EX] = 1;
+        about = say("%s, 2^24 inputs", layer_words(&l).text);
+        set_sheet(text, write_layer(text, &l));
+        call_shape(torch ? (koza_shape_answer){0, 0, 1, 16, 1024, 1, 1, 1024} : (koza_shape_answer){.number = 6});
+        call_lengths(torch ? (koza_lengths_answer){0, 0, 1 << 24, 0, 1 << 24} : (koza_lengths_answer){.number = 6});
+    }
+}
+
+/* The operator that is called decides what is used: a sheet of another is 2, and 1 where a size that both use is outside. */
+static void try_other_operators(layer l) {
+    char text[KOZA_SHEET_MAX * 2];
     for (uint32_t number = 2; number >= 1; number--) {
         l.field[X] = number == 1 ? 4097 : l.field[X];
         set_sheet(text, write_layer(text, &l));
         for (int op = 0; op < OPS; op++) {
-            about = say("%s on a sheet of %s, axes %d, X %" PRIu64, OP_NAMES[op], OP_NAMES[of], axes, l.field[X]);
-            if (op != (int)of)
+            about = say("%s on a sheet of %s, X %" PRIu64, OP_NAMES[op], layer_words(&l).text, l.field[X]);
+            if (op != (int)l.op)
                 call_operator((enum op)op, (lengths){5, 4, 3, op == MAXPOOL ? 3 : 0}, NULL, 0, (koza_answer){.number = number});
         }
     }
@@ -641,20 +708,19 @@ static size_t *length_of(lengths *n, int b) {
 }
 
 /* Each buffer none, one short, one long; the input holds a NaN, which is looked at later. */
-static void try_lengths(enum op op, int axes) {
+static void try_lengths(const layer *l) {
     char text[KOZA_SHEET_MAX * 2];
-    layer l = base(op, axes);
-    set_sheet(text, write_layer(text, &l));
+    set_sheet(text, write_layer(text, l));
     for (int b = INPUT; b < BUFFERS; b++)
         for (int change = -2; change <= 1; change++) {
-            lengths n = lend_all(op, lengths_of(&l));
+            lengths n = lend_all(l->op, lengths_of(l));
             size_t *length = length_of(&n, b), right = *length;
             if (right == 0 || change == 0)
                 continue; /* a buffer that the operator has not, or the right length */
             *length = change == -2 ? 0 : right + (size_t)change;
-            about = say("%s, axes %d, %s of %zu elements in place of %zu", OP_NAMES[op], axes, BUFFER_NAMES[b], *length, right);
+            about = say("%s, %s of %zu elements in place of %zu", layer_words(l).text, BUFFER_NAMES[b], *length, right);
             element nan = {0, 0, (uint32_t)QUIET_NAN};
-            call_operator(op, n, &nan, n.input > 0, (koza_answer){.number = 8});
+            call_operator(l->op, n, &nan, n.input > 0, (koza_answer){.number = 8});
         }
 }
 
@@ -721,18 +787,17 @@ static void try_element(const layer *l, size_t e, int input_first, int input_las
     if (ELEMENTS[e].bad && end > put)
         expected = (koza_answer){.number = 9, .tensor = put[0].tensor, .place = put[0].place,
                                  .bad = put[0].tensor == 0 ? (size_t)(input_first + input_last) : (size_t)(kernel_first + kernel_last)};
-    about = say("%s, axes %d, %s as input's first %d, last %d, kernel's first %d, last %d", OP_NAMES[l->op], l->axes, ELEMENTS[e].what, input_first,
-                input_last, kernel_first, kernel_last);
+    about = say("%s, %s as input's first %d, last %d, kernel's first %d, last %d", layer_words(l).text, ELEMENTS[e].what, input_first, input_last,
+                kernel_first, kernel_last);
     call_operator(l->op, lend_all(l->op, n), put, (size_t)(end - put), expected);
 }
 
-static void try_elements(enum op op, int axes) {
+static void try_elements(const layer *l) {
     char text[KOZA_SHEET_MAX * 2];
-    layer l = base(op, axes);
-    set_sheet(text, write_layer(text, &l));
+    set_sheet(text, write_layer(text, l));
     for (size_t e = 0; e < COUNT(ELEMENTS); e++)
         for (int where = 0; where < 16; where++)
-            try_element(&l, e, where & 1, where >> 1 & 1, where >> 2 & 1, where >> 3 & 1);
+            try_element(l, e, where & 1, where >> 1 & 1, where >> 2 & 1, where >> 3 & 1);
 }
 
 /* So many bad elements at the end of each tensor. Those of the input are counted; those of the kernel where the input has none. */
@@ -749,30 +814,29 @@ static void try_count(const layer *l, size_t of_input, size_t of_kernel) {
         expected = (koza_answer){.number = 9, .tensor = 0, .place = n.input - of_input, .bad = of_input};
     else if (of_kernel > 0)
         expected = (koza_answer){.number = 9, .tensor = 1, .place = n.kernel - of_kernel, .bad = of_kernel};
-    about = say("%s, axes %d, the last %zu elements of the input bad, the last %zu of the kernel", OP_NAMES[l->op], l->axes, of_input, of_kernel);
+    about = say("%s, the last %zu elements of the input bad, the last %zu of the kernel", layer_words(l).text, of_input, of_kernel);
     call_operator(l->op, lend_all(l->op, n), put, puts, expected);
 }
 
 /* None to all of the input's elements bad, with a kernel of good ones and of bad ones; then the same of the kernel's. */
-static void try_counts(enum op op, int axes) {
+static void try_counts(const layer *l) {
     char text[KOZA_SHEET_MAX * 2];
-    layer l = base(op, axes);
-    koza_lengths_answer n = lengths_of(&l);
-    set_sheet(text, write_layer(text, &l));
+    koza_lengths_answer n = lengths_of(l);
+    set_sheet(text, write_layer(text, l));
     for (size_t bad = 0; bad <= n.input; bad++) {
-        try_count(&l, bad, 0);
-        try_count(&l, bad, n.kernel);
+        try_count(l, bad, 0);
+        try_count(l, bad, n.kernel);
     }
     for (size_t bad = 0; bad <= n.kernel; bad++) {
-        try_count(&l, 0, bad);
-        try_count(&l, 1, bad);
+        try_count(l, 0, bad);
+        try_count(l, 1, bad);
     }
 }
 
 /* ---- what accepted calls leave: document 01's bench cases with one axis, the index of the first of two equal elements, a window past the input's end; with
  * three axes the order of taps, in sums that round otherwise in another order, and in windows */
 
-/* Input and kernel have their sizes by Z, Y, X; the stride is that of each axis. */
+/* Input and kernel have their sizes by Z, Y, X; the stride is that of each axis. Max pooling is tried at both versions, ceil_torch at 14. */
 static const struct {
     enum op op;
     const char *auto_pad, *rounding;
@@ -798,11 +862,16 @@ static const struct {
     {MAXPOOL, "valid", "floor", 3, {2, 2, 2}, {2, 2, 2}, 1, {0, 0, 5, 0, 5, 0, 0, 0}, {0}, {5}, {2}},
     {MAXPOOL, "valid", "floor", 3, {2, 1, 2}, {2, 1, 1}, 1, {-1, -4, -3, -2}, {0}, {-1, -2}, {0, 3}},
     {MAXPOOL, "valid", "ceil", 3, {3, 1, 1}, {2, 1, 1}, 2, {4, -1, -3}, {0}, {4, -3}, {0, 2}}, /* the last window holds depth 2 alone */
+    {MAXPOOL, "valid", "ceil_torch", 1, {1, 1, 6}, {1, 1, 3}, 2, {3, -1, 2, 5, -4, -2}, {0}, {3, 5, -2}, {0, 3, 5}},
+    {MAXPOOL, "valid", "ceil_torch", 1, {1, 1, 6}, {1, 1, 1}, 2, {3, -1, 2, 5, -4, -2}, {0}, {3, 2, -4}, {0, 2, 4}}, /* a fourth would start at 6 */
+    {MAXPOOL, "explicit", "ceil_torch", 2, {1, 2, 4}, {1, 1, 1}, 2, {8, 7, 6, 5, 4, 3, 2, 1}, {0}, {8, 6}, {0, 2}}, /* a row and a column less */
+    {MAXPOOL, "explicit", "ceil_torch", 3, {4, 1, 1}, {1, 1, 1}, 2, {4, -1, -3, 9}, {0}, {4, -3}, {0, 2}},
 };
 
-static void try_result(size_t i) {
+static void try_result(size_t i, int version) {
     char text[KOZA_SHEET_MAX * 2];
     layer l = plain(RESULTS[i].op, RESULTS[i].axes);
+    l.version = version;
     l.auto_pad = RESULTS[i].auto_pad;
     l.rounding = RESULTS[i].rounding;
     for (int axis = 3 - l.axes; axis < 3; axis++) {
@@ -811,7 +880,7 @@ static void try_result(size_t i) {
         l.field[SZ + axis] = RESULTS[i].stride;
     }
     set_sheet(text, write_layer(text, &l));
-    about = say("result %zu", i);
+    about = say("result %zu, version %d", i, version);
     element put[16];
     size_t inputs = lengths_of(&l).input, kernels = lengths_of(&l).kernel, outputs = lengths_of(&l).output;
     for (size_t k = 0; k < inputs + kernels; k++) {
@@ -825,10 +894,19 @@ static void try_result(size_t i) {
     check(FUNCTIONS[l.op], say("the outputs of the table"), say(same ? "the outputs of the table" : "other outputs"));
 }
 
+static void try_results(void) {
+    for (size_t i = 0; i < COUNT(RESULTS); i++) {
+        if (strcmp(RESULTS[i].rounding, "ceil_torch") != 0)
+            try_result(i, 8);
+        if (RESULTS[i].op == MAXPOOL)
+            try_result(i, 14);
+    }
+}
+
 /* ---- sheets that the reader refuses */
 
-/* The number and its line; the line of the sheet of base(op, axes) that each text takes the place of: 13 is what follows the sheet, 0 the whole of it.
- * '@' stands for the byte 0. */
+/* The number and its line; the line of the sheet of base(op, axes) that each text takes the place of: the line after the last is what follows the sheet, 0 the
+ * whole of it. '@' stands for the byte 0. */
 typedef struct {
     uint32_t number, at;
     enum op op;
@@ -845,6 +923,13 @@ static const edited SHEETS[] = {
     {22, 1, MAXPOOL, 1, {"op=maxpool\r", "op=maxpool ", "op= maxpool", "op=maxpools", "op=maxpoo", "op=MaxPool", "op=maxpool@", "op="}},
     {22, 1, MAXPOOL, 1, {"op=pool\naxes=9"}}, /* the first bad line */
     {21, 2, MAXPOOL, 1, {"op=maxpool\naxes=9\ninput=x"}},
+    {20, 1, MAXPOOL, 1, {"\nversion=14\nop=maxpool", " version=14\nop=maxpool", "Version=14\nop=maxpool", "version\nop=maxpool"}},
+    {21, 1, MAXPOOL, 1, {"version=8\nop=maxpool", "version=14op=maxpool", "version=op=maxpool"}},
+    {20, 2, MAXPOOL, 1, {"op=maxpool\nversion=14", "version=14\nversion=14\nop=maxpool", "version=14\n\nop=maxpool", "version=14"}},
+    {21, 1, CONVOLUTION, 1, {"version=8\nop=convolution", "version=1\nop=convolution"}},
+    {23, 2, CONVOLUTION, 1, {"version=14\nop=convolution", "version=14\nop=convolution\naxes=9"}},
+    {23, 2, TRANSPOSED, 1, {"version=14\nop=transposed"}},
+    {22, 2, TRANSPOSED, 1, {"version=14\nop=transpose"}}, /* before 23 */
     {20, 2, MAXPOOL, 2, {"axis=2", "axes:2", "Axes=2", ""}},
     {21, 2, MAXPOOL, 2, {"axes=0", "axes=4", "axes=4294967295", "axes=4294967298", "axes=02", "axes=+2", "axes=-2", "axes=", "axes=2 ", "axes= 2",
                          "axes=2\r", "axes=2@", "axes=2,", "axes=2,2", "axes=two"}},
@@ -872,8 +957,9 @@ static const edited SHEETS[] = {
     {21, 10, CONVOLUTION, 10, {"output_padding=1,4294967296", "output_padding=1"}}, /* before 23 */
     {23, 10, CONVOLUTION, 10, {"output_padding=0,15", "output_padding=4294967295,0"}},
     {20, 11, MAXPOOL, 11, {"Rounding=floor"}},
-    {22, 11, MAXPOOL, 11, {"rounding=", "rounding=floor ", "rounding=FLOOR"}},
-    {22, 11, CONVOLUTION, 11, {"rounding=round"}},
+    {22, 11, MAXPOOL, 11, {"rounding=", "rounding=floor ", "rounding=FLOOR", "rounding=ceil_torch", "rounding=ceil_"}}, /* version 8 has no ceil_torch */
+    {22, 11, CONVOLUTION, 11, {"rounding=round", "rounding=ceil_torch"}}, /* before 23 */
+    {22, 11, TRANSPOSED, 11, {"rounding=ceil_torch"}},
     {23, 11, CONVOLUTION, 11, {"rounding=ceil"}},
     {23, 11, TRANSPOSED, 11, {"rounding=ceil"}},
     {20, 12, MAXPOOL, 12, {"axes=2", ""}},
@@ -881,7 +967,7 @@ static const edited SHEETS[] = {
     {21, 12, CONVOLUTION, 12, {"axis=10", "axis=-0"}},
     {23, 12, CONVOLUTION, 12, {"axis=1", "axis=-1"}},
     {23, 12, TRANSPOSED, 12, {"axis=9", "axis=-9"}},
-    {20, 13, MAXPOOL, 13, {"\n", "@", " ", "axis=0\n", "\r\n"}},
+    {20, 13, MAXPOOL, 13, {"\n", "@", " ", "axis=0\n", "\r\n", "version=14\n"}},
     {20, 13, CONVOLUTION, 13, {"\n", "@"}},
     {20, 13, TRANSPOSED, 13, {"\n", "op=transposed\n"}},
 };
@@ -908,59 +994,104 @@ static const edited SHEETS_3[] = {
     {20, 13, MAXPOOL, 13, {"\n"}},
 };
 
+/* Version 14, two axes: every line is one later. */
+static const edited SHEETS_14[] = {
+    {20, 1, MAXPOOL, 0, {"version", "version=", "version=1", "version=14", "version=14op=maxpool", "version=15"}},
+    {20, 2, MAXPOOL, 0, {"version=14\n", "version=14\n\n", "version=14\nop=maxpool", "version=14\nversion=14\n"}},
+    {20, 3, MAXPOOL, 0, {"version=14\nop=maxpool\n"}},
+    {20, 1, MAXPOOL, 1, {"Version=14", "VERSION=14", "version:14", "version 14", "version", " version=14", "version =14", "versions=14", "", "=14", "14",
+                         "\xEF\xBB\xBFversion=14"}},
+    {21, 1, MAXPOOL, 1, {"version=8", "version=15", "version=13", "version=0", "version=1", "version=4", "version=140", "version=114", "version=014",
+                         "version=4294967310", "version=18446744073709551630"}}, /* the last two are 14 modulo 2^32 and 2^64 */
+    {21, 1, MAXPOOL, 1, {"version=", "version=+14", "version=-14", "version=14 ", "version= 14", "version=14\r", "version=14@", "version=14,", "version=14,14",
+                         "version=14.0", "version=0xE", "version=fourteen", "version=version=14"}},
+    {21, 1, MAXPOOL, 1, {"version=9\nversion=14", "version=9\nop=pool"}}, /* the first bad line */
+    {20, 2, MAXPOOL, 1, {"op=maxpool", "version=14\nversion=14"}}, /* twelve lines and `op=` twice; thirteen and the version twice */
+    {20, 2, MAXPOOL, 2, {"Op=maxpool", "op:maxpool", "axes=2", ""}},
+    {22, 2, MAXPOOL, 2, {"op=pool", "op=maxpool ", "op=maxpool\r", "op=MaxPool", "op=maxpool-14", "op="}},
+    {23, 2, MAXPOOL, 2, {"op=convolution", "op=transposed", "op=convolution\naxes=9"}},
+    {20, 3, MAXPOOL, 2, {"op=maxpool\nversion=14", "op=maxpool\nop=maxpool"}},
+    {20, 3, MAXPOOL, 3, {"axis=2", "Axes=2", ""}},
+    {21, 3, MAXPOOL, 3, {"axes=0", "axes=4", "axes=02", "axes=14", "axes="}},
+    {21, 4, MAXPOOL, 3, {"axes=1", "axes=3"}}, /* the lists are those of two axes */
+    {20, 4, MAXPOOL, 4, {"inputs=1,2,3,3"}},
+    {21, 4, MAXPOOL, 4, {"input=1,2,3", "input=1,2,3,3,1", "input=1,2,3,4294967296"}},
+    {20, 5, MAXPOOL, 5, {"kernels=2,2", ""}},
+    {21, 5, MAXPOOL, 5, {"kernel=2", "kernel=2,2,2", "kernel=1,1,1,2,2"}},
+    {20, 6, MAXPOOL, 6, {"stride=1,1"}},
+    {21, 6, MAXPOOL, 6, {"strides=1", "strides=1,1,1", "strides=01,1"}},
+    {20, 7, MAXPOOL, 7, {"dilation=1,1"}},
+    {21, 7, MAXPOOL, 7, {"dilations=1", "dilations=1,1,1"}},
+    {20, 8, MAXPOOL, 8, {"auto-pad=valid", "pads_begin=0,0"}},
+    {22, 8, MAXPOOL, 8, {"auto_pad=", "auto_pad=same", "auto_pad=valid "}},
+    {20, 9, MAXPOOL, 9, {"pads_end=0,0"}},
+    {21, 9, MAXPOOL, 9, {"pads_begin=0", "pads_begin=0,-1", "pads_begin=0,0,0"}},
+    {20, 10, MAXPOOL, 10, {"pads_begin=0,0"}},
+    {21, 10, MAXPOOL, 10, {"pads_end=0", "pads_end=0,0,0"}},
+    {20, 11, MAXPOOL, 11, {"output-padding=0,0"}},
+    {21, 11, MAXPOOL, 11, {"output_padding=1", "output_padding=1,4294967296"}}, /* before 23 */
+    {23, 11, MAXPOOL, 11, {"output_padding=1,0", "output_padding=0,1"}},
+    {20, 12, MAXPOOL, 12, {"Rounding=floor", "axis=0"}},
+    {22, 12, MAXPOOL, 12, {"rounding=", "rounding=round", "rounding=floor ", "rounding=ceil_", "rounding=ceil_torc", "rounding=ceil_torchs",
+                           "rounding=ceil-torch", "rounding=ceil_torch ", "rounding=ceil_torch\r", "rounding=CEIL_TORCH", "rounding=torch",
+                           "rounding=floor,ceil"}},
+    {20, 13, MAXPOOL, 13, {"axes=2", ""}},
+    {21, 13, MAXPOOL, 13, {"axis=10", "axis=-0", "axis=", "axis=2 ", "axis=+1"}},
+    {20, 14, MAXPOOL, 14, {"\n", "@", " ", "axis=0\n", "\r\n", "version=14\n"}},
+};
+
 /* The sheet of base(op, axes) with one line replaced. */
-static size_t edit_sheet(char *to, enum op op, int axes, uint32_t line, const char *by) {
+static size_t edit_sheet(char *to, enum op op, int version, int axes, uint32_t line, const char *by) {
     char text[KOZA_SHEET_MAX * 2];
     layer l = base(op, axes);
+    l.version = version;
     text[write_layer(text, &l)] = 0;
     size_t n = line == 0 ? (size_t)sprintf(to, "%s", by) : 0;
     uint32_t at = 1;
     for (char *from = strtok(text, "\n"); line > 0 && from; from = strtok(NULL, "\n"))
         n += (size_t)sprintf(to + n, "%s\n", at++ == line ? by : from);
-    if (line == 13)
+    if (line == at)
         n += (size_t)sprintf(to + n, "%s", by);
     for (size_t i = 0; i < n; i++)
         to[i] = to[i] == '@' ? 0 : to[i];
     return n;
 }
 
-static void try_sheets(const edited *sheets, size_t count, int axes) {
+static void try_sheets(const edited *sheets, size_t count, int version, int axes) {
     char text[KOZA_SHEET_MAX * 2];
     for (const edited *s = sheets; s < sheets + count; s++)
         for (const char *const *by = s->texts; *by; by++) {
-            about = say("%s, axes %d, another line %u", OP_NAMES[s->op], axes, s->line);
-            set_sheet(text, edit_sheet(text, s->op, axes, s->line, *by));
+            about = say("%s, version %d, axes %d, another line %u", OP_NAMES[s->op], version, axes, s->line);
+            set_sheet(text, edit_sheet(text, s->op, version, axes, s->line, *by));
             try_refused_sheet(s->number, s->at);
         }
 }
 
 /* A sheet that is cut short lacks a line end, or the whole line: 20 at the line where the cut is. */
-static void try_cut_sheets(enum op op, int axes) {
+static void try_cut_sheets(const layer *l) {
     char text[KOZA_SHEET_MAX * 2];
-    layer l = base(op, axes);
-    size_t len = write_layer(text, &l);
+    size_t len = write_layer(text, l);
     uint32_t line = 1;
     for (size_t cut = 0; cut < len; cut++) {
-        about = say("%s, axes %d, the first %zu bytes", OP_NAMES[op], axes, cut);
+        about = say("%s, the first %zu bytes", layer_words(l).text, cut);
         set_sheet(text, cut);
         try_refused_sheet(20, line);
         line += text[cut] == '\n';
     }
 }
 
-/* All lines end in CR and LF: the word of line 1 is unknown. */
-static void try_crlf(enum op op) {
+/* All lines end in CR and LF: the word of line 1 is unknown, or its version is none. */
+static void try_crlf(layer l) {
     char text[KOZA_SHEET_MAX * 2], crlf[KOZA_SHEET_MAX * 2];
-    layer l = base(op, 2);
     size_t len = write_layer(text, &l), n = 0;
     for (size_t i = 0; i < len; i++) {
         if (text[i] == '\n')
             crlf[n++] = '\r';
         crlf[n++] = text[i];
     }
-    about = say("%s, CR LF", OP_NAMES[op]);
+    about = say("%s, CR LF", layer_words(&l).text);
     set_sheet(crlf, n);
-    try_refused_sheet(22, 1);
+    try_refused_sheet(l.version == 8 ? 22 : 21, 1);
 }
 
 /* ---- sheets written back */
@@ -987,22 +1118,23 @@ static void try_rewrite(size_t room) {
 static void try_rewrites(const layer *l) {
     char text[KOZA_SHEET_MAX * 2];
     set_sheet(text, write_layer(text, l));
-    about = say("%s, axes %d, a sheet of %zu bytes", OP_NAMES[l->op], l->axes, sheet_len);
+    about = say("%s, a sheet of %zu bytes", layer_words(l).text, sheet_len);
     const size_t rooms[] = {0, 1, sheet_len - 1, sheet_len, sheet_len + 1, sheet_len + 100, KOZA_SHEET_MAX};
     for (size_t i = 0; i < COUNT(rooms); i++)
         try_rewrite(rooms[i]);
 }
 
 /* The longest sheet that the reader takes: three axes, every number 4,294,967,295 except where a default is asked for. */
-static void try_longest(enum op op) {
-    layer l = base(op, 3);
+static void try_longest(layer l) {
     for (int f = N; f < FIELDS; f++)
-        l.field[f] = op != TRANSPOSED && f >= PZ ? 0 : LARGEST;
+        l.field[f] = l.op != TRANSPOSED && f >= PZ ? 0 : LARGEST;
     l.auto_pad = "same_upper";
-    l.axis = op == MAXPOOL ? -9 : 0;
+    if (l.version == 14)
+        l.rounding = "ceil_torch";
+    l.axis = l.op == MAXPOOL ? -9 : 0;
     try_rewrites(&l);
-    printf("longest sheet of %s: %zu bytes\n", OP_NAMES[op], sheet_len);
-    about = say("the longest sheet of %s", OP_NAMES[op]);
+    printf("longest sheet of %s, version %d: %zu bytes\n", OP_NAMES[l.op], l.version, sheet_len);
+    about = say("the longest sheet of %s, version %d", OP_NAMES[l.op], l.version);
     check("KOZA_SHEET_MAX", say("room for it"), say(sheet_len <= KOZA_SHEET_MAX ? "room for it" : "%zu bytes are more", sheet_len));
     call_shape((koza_shape_answer){.number = 1});
     call_lengths((koza_lengths_answer){.number = 1});
@@ -1240,45 +1372,68 @@ static void try_nothing(enum op op) {
     null_where_empty = 1;
 }
 
-static void try_operator(enum op op, int axes) {
+static void try_operator(const layer *l) {
     for (size_t m = 0; m < COUNT(MODES); m++) {
-        layer l = base(op, axes);
+        layer in_mode = *l;
+        in_mode.auto_pad = MODES[m];
+        try_limits(in_mode);
+        try_rewrites(&in_mode);
+    }
+    try_other_operators(*l);
+    try_lengths(l);
+    try_elements(l);
+    try_counts(l);
+    try_cut_sheets(l);
+}
+
+/* MaxPool-14: as the operators, and every mode with ceil_torch written back. */
+static void try_version_14(int axes) {
+    layer l = base_14(axes);
+    try_operator(&l);
+    l.rounding = "ceil_torch";
+    for (size_t m = 0; m < COUNT(MODES); m++) {
         l.auto_pad = MODES[m];
-        try_limits(l);
         try_rewrites(&l);
     }
-    try_other_operators(op, axes);
-    try_lengths(op, axes);
-    try_elements(op, axes);
-    try_counts(op, axes);
-    try_cut_sheets(op, axes);
+    try_cut_sheets(&l);
+}
+
+static void try_operators(void) {
+    for (int op = 0; op < OPS; op++) {
+        try_nothing((enum op)op);
+        for (int axes = 1; axes <= 3; axes++) {
+            layer l = base((enum op)op, axes);
+            try_operator(&l);
+        }
+        for (int b = INPUT; b < BUFFERS; b++)
+            try_long_buffer((enum op)op, b);
+        try_crlf(base((enum op)op, 2));
+        try_longest(base((enum op)op, 3));
+    }
+    for (int axes = 1; axes <= 3; axes++)
+        try_version_14(axes);
+    try_crlf(base_14(2));
+    try_longest(base_14(3));
 }
 
 int main(void) {
     make_memory();
     about = say("the archive's beside the header's");
     compare("koza_version", say("%d", KOZA_VERSION), say("%u", koza_version()));
-    for (int op = 0; op < OPS; op++) {
-        try_nothing((enum op)op);
-        for (int axes = 1; axes <= 3; axes++)
-            try_operator((enum op)op, axes);
-        for (int b = INPUT; b < BUFFERS; b++)
-            try_long_buffer((enum op)op, b);
-        try_crlf((enum op)op);
-        try_longest((enum op)op);
-    }
+    try_operators();
     for (int axes = 1; axes <= 3; axes++) {
         try_axis(axes);
         for (int axis = 3 - axes; axis < 3; axis++)
-            try_valid((enum field)(Z + axis), axes);
+            try_windows((enum field)(Z + axis), axes);
     }
+    try_most_outputs();
     try_combined();
     try_channels_of_outputs(CONVOLUTION);
     try_channels_of_outputs(TRANSPOSED);
-    for (size_t i = 0; i < COUNT(RESULTS); i++)
-        try_result(i);
-    try_sheets(SHEETS, COUNT(SHEETS), 2);
-    try_sheets(SHEETS_3, COUNT(SHEETS_3), 3);
+    try_results();
+    try_sheets(SHEETS, COUNT(SHEETS), 8, 2);
+    try_sheets(SHEETS_3, COUNT(SHEETS_3), 8, 3);
+    try_sheets(SHEETS_14, COUNT(SHEETS_14), 14, 2);
     set_sheet("", 0);
     try_planes();
     try_peaks();

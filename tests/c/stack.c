@@ -190,7 +190,7 @@ static const char *const OPS[] = {"convolution", "transposed", "maxpool"}, *cons
 static const uint32_t OUTPUTS[] = {1, 2, 5, 8, 40}, STRIDES[] = {1, 2, 3}, DILATIONS[] = {1, 2}, PADS[] = {0, 1, 9}, KERNELS[] = {1, 2, 3, 5};
 
 typedef struct {
-    int op, axes, mode;
+    int op, version, axes, mode; /* version 14: maxpool, with ceil_torch */
     uint32_t outputs, stride, dilation, pad, kernel;
 } layer;
 
@@ -213,6 +213,8 @@ static void write_sheet(layer l) {
     uint32_t in = l.op == 1 ? l.outputs : l.mode == 1 || l.mode == 2 ? l.outputs * l.stride : need > pads ? need - pads : 1;
     uint32_t rows = l.axes == 3 ? l.kernel + 1 : l.kernel + 3; /* fewer where there are depths: the calls stay short */
     at.sheet_len = 0;
+    if (l.version == 14)
+        add_word("version", "14");
     add_word("op", OPS[l.op]);
     add_list("axes=", 1, 0, (uint32_t)l.axes);
     add_list("input=2,2,", l.axes, rows, in);
@@ -223,7 +225,7 @@ static void write_sheet(layer l) {
     add_list("pads_begin=", l.axes, l.pad, l.pad);
     add_list("pads_end=", l.axes, l.pad, l.pad);
     add_list("output_padding=", l.axes, 0, 0);
-    add_word("rounding", "floor");
+    add_word("rounding", l.version == 14 ? "ceil_torch" : "floor");
     add_word("axis", "0");
 }
 
@@ -262,8 +264,8 @@ static void call_rewrite(void) {
     }
 }
 
-static void call_layers(int op, int axes) {
-    layer l = {.op = op, .axes = axes};
+static void call_layers(int op, int version, int axes) {
+    layer l = {.op = op, .version = version, .axes = axes};
     for (size_t i = 0; i < COUNT(OUTPUTS) * COUNT(STRIDES) * COUNT(DILATIONS) * COUNT(PADS) * COUNT(KERNELS) * COUNT(MODES); i++) {
         size_t rest = i;
         l.outputs = OUTPUTS[rest % COUNT(OUTPUTS)], rest /= COUNT(OUTPUTS);
@@ -279,9 +281,9 @@ static void call_layers(int op, int axes) {
 }
 
 /* Each byte of a sheet in turn is another one, or the sheet ends before it. */
-static void call_bad_sheets(int op, int axes) {
+static void call_bad_sheets(int op, int version, int axes) {
     const uint8_t others[] = {0, '\n', ',', '-', '0', '9', 'x'};
-    write_sheet((layer){op, axes, 0, 5, 1, 1, 1, 3});
+    write_sheet((layer){op, version, axes, 0, 5, 1, 1, 1, 3});
     for (size_t i = 0, len = at.sheet_len; i < len; i++) {
         uint8_t byte = at.sheet[i];
         for (size_t o = 0; o < COUNT(others); o++) {
@@ -298,23 +300,26 @@ static void call_bad_sheets(int op, int axes) {
     }
 }
 
-/* The longest sheet: numbers of ten digits. */
-static void call_longest_sheet(int axes) {
+/* The longest sheet of transposed, or of maxpool at version 14: numbers of ten digits. */
+static void call_longest_sheet(int axes, int pool) {
 #define MAX "4294967295"
+    uint32_t padding = pool ? 0 : UINT32_MAX;
     at.sheet_len = 0;
-    add_word("op", "transposed");
+    if (pool)
+        add_word("version", "14");
+    add_word("op", pool ? "maxpool" : "transposed");
     add_list("axes=", 1, 0, (uint32_t)axes);
     add_list("input=" MAX "," MAX ",", axes, UINT32_MAX, UINT32_MAX);
-    add_list("kernel=" MAX "," MAX "," MAX ",", axes, UINT32_MAX, UINT32_MAX);
+    add_list(pool ? "kernel=" : "kernel=" MAX "," MAX "," MAX ",", axes, UINT32_MAX, UINT32_MAX);
     add_list("strides=", axes, UINT32_MAX, UINT32_MAX);
     add_list("dilations=", axes, UINT32_MAX, UINT32_MAX);
     add_word("auto_pad", "same_upper");
     add_list("pads_begin=", axes, UINT32_MAX, UINT32_MAX);
     add_list("pads_end=", axes, UINT32_MAX, UINT32_MAX);
-    add_list("output_padding=", axes, UINT32_MAX, UINT32_MAX);
-    add_word("rounding", "floor");
-    add_word("axis", "0");
-    call_with_sheet(1);
+    add_list("output_padding=", axes, padding, padding);
+    add_word("rounding", pool ? "ceil_torch" : "floor");
+    add_word("axis", pool ? "-9" : "0");
+    call_with_sheet(pool ? 2 : 1);
     call_rewrite();
 }
 
@@ -364,10 +369,13 @@ int main(void) {
     measure(VERSION);
     for (int axes = 1; axes <= 3; axes++) {
         for (int op = 0; op < 3; op++) {
-            call_layers(op, axes);
-            call_bad_sheets(op, axes);
+            call_layers(op, 8, axes);
+            call_bad_sheets(op, 8, axes);
         }
-        call_longest_sheet(axes);
+        call_layers(2, 14, axes);
+        call_bad_sheets(2, 14, axes);
+        for (int pool = 0; pool < 2; pool++)
+            call_longest_sheet(axes, pool);
     }
     call_planes();
     call_peaks();

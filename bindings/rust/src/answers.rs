@@ -34,7 +34,7 @@ pub fn transposed(sheet: &[u8], input: &[f32], kernel: &[f32], output: &mut [f32
     }
 }
 
-/// Max pooling: numbers 0 to 2, 4 to 9 and 20 to 23. `values` and `indices` are written only with number 0.
+/// Max pooling, MaxPool-8 or MaxPool-14 by the sheet: numbers 0 to 2, 4 to 9 and 20 to 23. `values` and `indices` are written only with number 0.
 pub fn maxpool(sheet: &[u8], input: &[f32], values: &mut [f32], indices: &mut [i64]) -> Answer {
     unsafe {
         boundary::koza_maxpool(

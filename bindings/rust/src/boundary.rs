@@ -1,7 +1,7 @@
 //! The C boundary of the library, word for word as `include/kozamyure.h` declares it.
 
-/// `line` for 20 to 23; for 9 `tensor` (0 input, looked at first; 1 kernel), the first bad `place` in it and how many of its elements are `bad`. The kernel
-/// is not looked at when the input is bad. What a number does not use is 0.
+/// `line` for 20 to 23, counted from the sheet's first line, which may be a version line; for 9 `tensor` (0 input, looked at first; 1 kernel), the first bad
+/// `place` in it and how many of its elements are `bad`. The kernel is not looked at when the input is bad. What a number does not use is 0.
 #[repr(C)]
 #[derive(Clone, Copy, Debug, PartialEq, Eq)]
 pub struct Answer {

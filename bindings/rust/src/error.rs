@@ -17,7 +17,7 @@ pub enum Tensor {
 pub struct Error {
     /// The number: 1 to 9, or 20 to 24.
     pub number: u32,
-    /// The sheet's line, for 20 to 23.
+    /// The sheet's line, for 20 to 23, counted from its first, which may be a version line.
     pub line: u32,
     /// The tensor with bad elements, for 9. The kernel is not looked at when the input is bad.
     pub tensor: Option<Tensor>,
@@ -75,10 +75,10 @@ pub fn text(number: u32) -> &'static str {
         7 => "pooling: some window holds no element",
         8 => "a buffer's length is not exactly its element count (elements, not bytes: koza_lengths tells them)",
         9 => "an element above 2^40 in magnitude or NaN",
-        20 => "the sheet: a wrong key or no line end, or bytes left over (line 13)",
-        21 => "the sheet: a number, or a count of numbers, that breaks the rules",
-        22 => "the sheet: an unknown word",
-        23 => "the sheet: a line that its operator does not use is not at its default",
+        20 => "the sheet: a wrong key or no line end, or bytes left over (line 13, or 14 with a version line)",
+        21 => "the sheet: a number, or a count of numbers, that breaks the rules, or a version line other than version=14",
+        22 => "the sheet: an unknown word, as is ceil_torch without a version line",
+        23 => "the sheet: a line that its operator does not use is not at its default, or a version line before another operator than maxpool",
         24 => "the buffer is shorter than the sheet",
         _ => "no number of this library",
     }

@@ -1,9 +1,9 @@
 //! Convolution, transposed convolution and max pooling with indices over lent `f32` tensors: safe functions over slices for the proved library
 //! Kozamyure.
 //!
-//! A call takes the text of a layer sheet (twelve `key=value` lines, see the library's README) and the tensors. No caller need check sheet, sizes,
-//! lengths or elements first: every call is answered for any slices and numbers, nothing panics, and a call that gives an [`Error`] leaves every lent
-//! buffer as it was.
+//! A call takes the text of a layer sheet and the tensors. A sheet has twelve `key=value` lines, and for MaxPool-14 a line `version=14` in front of them;
+//! see the library's README. No caller need check sheet, sizes, lengths or elements first: every call is answered for any slices and numbers, nothing
+//! panics, and a call that gives an [`Error`] leaves every lent buffer as it was.
 //!
 //! ```no_run
 //! # fn main() -> Result<(), Box<dyn std::error::Error>> {
@@ -115,7 +115,7 @@ pub fn transposed(sheet: &[u8], input: &[f32], kernel: &[f32], output: &mut [f32
 }
 
 /// Writes every element of values and indices \[N, C, OZ, OY, OX\] from the input \[N, C, Z, Y, X\]; with two axes every Z is left out, with one every Z
-/// and Y. Refused with 1, 2, 4 to 9 and 20 to 23; both are then as they were.
+/// and Y. This is MaxPool-8, or MaxPool-14 where the sheet has a version line. Refused with 1, 2, 4 to 9 and 20 to 23; both are then as they were.
 pub fn maxpool(sheet: &[u8], input: &[f32], values: &mut [f32], indices: &mut [i64]) -> Result<(), Error> {
     written(answers::maxpool(sheet, input, values, indices))
 }

@@ -1,6 +1,6 @@
-//! A fixed stream of calls: layers of one to three axes that are mostly valid, each number's faults often, damaged sheets, wrong lengths, and elements at
-//! every edge.
-use crate::reference::{show_sheet, AutoPad, Axis, Layer, Op, UNUSED, X};
+//! A fixed stream of calls: layers of both versions and of one to three axes that are mostly valid, each number's faults often, damaged sheets, wrong lengths,
+//! and elements at every edge.
+use crate::reference::{show_sheet, AutoPad, Axis, Layer, Op, Rounding, UNUSED, X};
 
 /// A small generator of its own (xorshift), so that a seed gives the same calls everywhere.
 pub struct Random(u64);
@@ -66,8 +66,24 @@ fn row(r: &mut Random, op: Op, auto_pad: AutoPad) -> Axis {
     Axis { size: columns - pads, kernel, stride, dilation, begin, end, extra: 0 }
 }
 
+/// An axis whose last window by ceil starts at the input's end or past it: ceil_torch has one less. Seldom, with explicit, there are two: one stays, number 7.
+fn past_end(r: &mut Random, auto_pad: AutoPad, a: Axis) -> Axis {
+    let reach = (a.kernel - 1) * a.dilation + 1;
+    if auto_pad == AutoPad::Valid {
+        // A stride wider than the kernel and one or two of them, or a little less: the window after them starts past the end.
+        let stride = reach.min(13) + r.range(1, 3);
+        let size = r.range(1, 2) * stride - r.range(0, stride.saturating_sub(reach + 1));
+        return Axis { size, stride, ..a };
+    }
+    let begin = a.begin.min(reach - 1);
+    // The first window that starts at the end or past it starts `gap` after the end. With `gap + reach` pads it fits; with a stride less ceil does not have it.
+    let gap = (a.size + begin).next_multiple_of(a.stride) - a.size - begin;
+    let end = r.range((gap + reach + 1).saturating_sub(a.stride), gap + reach);
+    Axis { begin, end: if r.chance(6) { end + a.stride } else { end }, ..a }
+}
+
 /// Z, Y and X, the last `axes` of them drawn. The more axes there are the smaller they are, so that a call stays quick.
-fn spatial(r: &mut Random, op: Op, auto_pad: AutoPad, axes: u64) -> [Axis; 3] {
+fn spatial(r: &mut Random, op: Op, auto_pad: AutoPad, rounding: Rounding, axes: u64) -> [Axis; 3] {
     let by_row = op != Op::MaxPool && r.chance(2);
     let (size, kernel) = match (axes, by_row) {
         (1, _) => (24, 4),
@@ -79,11 +95,23 @@ fn spatial(r: &mut Random, op: Op, auto_pad: AutoPad, axes: u64) -> [Axis; 3] {
     let mut spatial = [UNUSED; 3];
     for a in spatial.iter_mut().rev().take(axes as usize) {
         *a = axis(r, op, size, kernel);
+        if rounding == Rounding::CeilTorch && r.chance(2) {
+            *a = past_end(r, auto_pad, *a);
+        }
     }
     if by_row {
         spatial[X] = row(r, op, auto_pad);
     }
     spatial
+}
+
+/// Version and rounding: half of the poolings are of version 14, and half of these have ceil_torch.
+fn version(r: &mut Random, op: Op) -> (u64, Rounding) {
+    match op {
+        Op::MaxPool if r.chance(2) => (14, r.pick(&[Rounding::Floor, Rounding::Ceil, Rounding::CeilTorch, Rounding::CeilTorch])),
+        Op::MaxPool => (8, r.pick(&[Rounding::Floor, Rounding::Ceil])),
+        _ => (8, Rounding::Floor),
+    }
 }
 
 /// A layer that is valid more often than not, small enough to be computed.
@@ -97,7 +125,9 @@ pub fn layer(r: &mut Random) -> Layer {
         r.pick(&[AutoPad::Explicit, AutoPad::SameUpper, AutoPad::SameLower, AutoPad::Valid])
     };
     let rank = axes as i64 + 2;
+    let (version, rounding) = version(r, op);
     Layer {
+        version,
         op,
         axes,
         n: r.range(1, 2),
@@ -105,9 +135,9 @@ pub fn layer(r: &mut Random) -> Layer {
         g,
         o,
         i,
-        spatial: spatial(r, op, auto_pad, axes),
+        spatial: spatial(r, op, auto_pad, rounding, axes),
         auto_pad,
-        ceil: op == Op::MaxPool && r.chance(2),
+        rounding,
         axis: if op == Op::MaxPool { r.range(0, 2 * rank as u64 - 1) as i64 - rank } else { 0 },
     }
 }
@@ -153,7 +183,7 @@ fn many_outputs(l: &mut Layer) {
 /// One field set to an edge (0, its limit, one above, the largest u32, or something near), or a few set for one number.
 pub fn spoil(r: &mut Random, l: &mut Layer) {
     let edge = r.pick(&[0, 1, 2, 15, 16, 17, 63, 64, 65, 1023, 1024, 1025, 4095, 4096, 4097, u64::from(u32::MAX)]);
-    let field = r.range(0, 21);
+    let field = r.range(0, 23);
     let a = &mut l.spatial[r.range(3 - l.axes, 2) as usize];
     match field {
         0 => l.n = edge,
@@ -175,20 +205,25 @@ pub fn spoil(r: &mut Random, l: &mut Layer) {
         17 | 18 => many_outputs(l),
         // Windows that miss the input: number 7.
         19 | 20 if l.op == Op::MaxPool => {
-            l.ceil = true;
+            l.rounding = if l.version == 14 { r.pick(&[Rounding::Ceil, Rounding::CeilTorch]) } else { Rounding::Ceil };
             *a = Axis { kernel: r.range(1, 3), stride: r.range(2, 9), dilation: r.range(1, 16), ..*a };
         }
+        21 => l.version = r.pick(&[0, 8, 13, 14, 14, 15, 140, u64::from(u32::MAX)]),
+        22 => l.rounding = r.pick(&[Rounding::Floor, Rounding::Ceil, Rounding::CeilTorch]),
         _ => l.auto_pad = r.pick(&[AutoPad::Explicit, AutoPad::Valid]),
     }
 }
 
 /// Lines that take the place of those with their keys: wrong words and numbers, and lists that have the right length with some numbers of axes alone.
-const LINES: [&str; 37] = [
+const LINES: [&str; 40] = [
     "op=pool",
     "auto_pad=same",
     "auto_pad=SAME_UPPER",
     "rounding=ceil",
     "rounding=round",
+    "rounding=ceil_torch",
+    "rounding=CEIL_TORCH",
+    "rounding=ceil_",
     "axis=-0",
     "axis=10",
     "axis=1",
@@ -225,7 +260,8 @@ const LINES: [&str; 37] = [
 
 /// A list with one number more, or one less.
 fn recount(r: &mut Random, lines: &mut [String]) {
-    let line = &mut lines[r.pick(&[2, 3, 4, 5, 7, 8, 9])];
+    let op_line = lines.len() - 12;
+    let line = &mut lines[op_line + r.pick(&[2, 3, 4, 5, 7, 8, 9])];
     match line.rfind(',') {
         Some(last) if r.chance(2) => line.truncate(last),
         _ => line.push_str(",1"),
@@ -245,10 +281,38 @@ fn edit_lines(r: &mut Random, text: &str) -> String {
         }
     }
     if r.chance(6) {
-        let (a, b) = (r.range(0, 11) as usize, r.range(0, 11) as usize);
+        let last = lines.len() as u64 - 1;
+        let (a, b) = (r.range(0, last) as usize, r.range(0, last) as usize);
         lines.swap(a, b);
     }
     lines.into_iter().map(|line| line + "\n").collect()
+}
+
+/// Lines in place of `version=14`.
+const VERSIONS: [&str; 18] = [
+    "version=8", "version=15", "version=014", "version=", "version=4294967310", "version=14 ", "version=14\r", "version=+14", "version=14,14", "version=1",
+    "version=140", "Version=14", "VERSION=14", "version:14", "version", " version=14", "version =14", "versions=14",
+];
+
+/// A sheet with a bad version line, or with `version=14` twice, at another place, without its line end, alone, before any operator, or left out.
+fn edit_version(r: &mut Random, text: &str) -> String {
+    const LINE: &str = "version=14\n";
+    let without = text.strip_prefix(LINE).unwrap_or(text);
+    let torch = without.replace("=floor\n", "=ceil_torch\n");
+    match r.range(0, 8) {
+        0 | 1 => format!("{}\n{without}", r.pick(&VERSIONS)),
+        2 => format!("{LINE}{text}"),
+        3 => format!("{LINE}{torch}"),
+        4 => torch,
+        5 => without.to_string(),
+        6 => {
+            let mut lines: Vec<&str> = without.split_inclusive('\n').collect();
+            lines.insert(r.range(1, lines.len() as u64) as usize, LINE);
+            lines.concat()
+        }
+        7 => format!("version=14{without}"),
+        _ => LINE[..r.range(1, LINE.len() as u64) as usize].to_string(),
+    }
 }
 
 /// A sheet of the layer, at times damaged: a byte, the end, a line, or the order.
@@ -259,14 +323,15 @@ pub fn sheet(r: &mut Random, l: &Layer) -> Vec<u8> {
         return text;
     }
     let at = r.range(0, text.len() as u64 - 1) as usize;
-    match r.range(0, 9) {
+    match r.range(0, 11) {
         0 => text[at] = r.pick(&[b'0', b'9', b',', b'=', b'\n', b'-', b' ', b'x', 0, 255]),
         1 => {
             text.remove(at);
         }
         2 => text.insert(at, r.pick(b"01,\n \r")),
         3 => text.truncate(at),
-        4 => text.extend_from_slice(r.pick(&[&b"\n"[..], b"x", b"axis=0\n", b" "])),
+        4 => text.extend_from_slice(r.pick(&[&b"\n"[..], b"x", b"axis=0\n", b" ", b"version=14\n"])),
+        5 | 6 => text = edit_version(r, &shown).into_bytes(),
         _ => text = edit_lines(r, &shown).into_bytes(),
     }
     text

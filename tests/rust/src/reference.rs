@@ -16,6 +16,13 @@ pub enum AutoPad {
     Valid,
 }
 
+#[derive(Clone, Copy, Debug, PartialEq, Eq)]
+pub enum Rounding {
+    Floor,
+    Ceil,
+    CeilTorch,
+}
+
 /// One spatial axis: input, kernel, stride, dilation, pads and output padding.
 #[derive(Clone, Copy, Debug, PartialEq, Eq)]
 pub struct Axis {
@@ -37,6 +44,8 @@ pub const X: usize = 2;
 
 #[derive(Clone, Copy, Debug, PartialEq, Eq)]
 pub struct Layer {
+    /// 8 or, for MaxPool-14, 14.
+    pub version: u64,
     pub op: Op,
     pub axes: u64,
     pub n: u64,
@@ -47,14 +56,15 @@ pub struct Layer {
     /// Z, Y and X, of which the last `axes` are used.
     pub spatial: [Axis; 3],
     pub auto_pad: AutoPad,
-    pub ceil: bool,
+    pub rounding: Rounding,
     pub axis: i64,
 }
 
 impl Layer {
     /// A layer with every size 1 and every attribute at its default.
     pub fn new(op: Op, axes: u64) -> Layer {
-        Layer { op, axes, n: 1, c: 1, g: 1, o: 1, i: 1, spatial: [UNUSED; 3], auto_pad: AutoPad::Explicit, ceil: false, axis: 0 }
+        let (spatial, auto_pad, rounding) = ([UNUSED; 3], AutoPad::Explicit, Rounding::Floor);
+        Layer { version: 8, op, axes, n: 1, c: 1, g: 1, o: 1, i: 1, spatial, auto_pad, rounding, axis: 0 }
     }
 
     pub fn used(&self) -> &[Axis] {
@@ -91,13 +101,14 @@ pub fn refuse(number: u32) -> Refusal {
 
 // ---- the sheet
 
-const KEYS: [&str; 12] = [
-    "op", "axes", "input", "kernel", "strides", "dilations", "auto_pad", "pads_begin", "pads_end", "output_padding", "rounding", "axis",
+/// The keys of the lines in their order. Only a sheet for MaxPool-14 has the first.
+const KEYS: [&str; 13] = [
+    "version", "op", "axes", "input", "kernel", "strides", "dilations", "auto_pad", "pads_begin", "pads_end", "output_padding", "rounding", "axis",
 ];
 const OPS: [(&str, Op); 3] = [("convolution", Op::Convolution), ("transposed", Op::Transposed), ("maxpool", Op::MaxPool)];
 const AUTO_PADS: [(&str, AutoPad); 4] =
     [("explicit", AutoPad::Explicit), ("same_upper", AutoPad::SameUpper), ("same_lower", AutoPad::SameLower), ("valid", AutoPad::Valid)];
-const ROUNDINGS: [(&str, bool); 2] = [("floor", false), ("ceil", true)];
+const ROUNDINGS: [(&str, Rounding); 3] = [("floor", Rounding::Floor), ("ceil", Rounding::Ceil), ("ceil_torch", Rounding::CeilTorch)];
 
 /// What a word means, or number 22.
 fn meaning<T: Copy>(words: &[(&str, T)], text: &[u8]) -> Result<T, u32> {
@@ -124,25 +135,31 @@ fn axis_value(text: &[u8]) -> Option<i64> {
     }
 }
 
-/// The fields that a list shows, in its order.
+/// The fields that a list shows, in its order; none for a line that is no list.
 fn list<'a>(l: &'a mut Layer, key: &str) -> Vec<&'a mut u64> {
-    let unused = 3 - l.axes as usize;
+    let unused = 3 - l.axes.min(3) as usize;
     let head = match (key, l.op) {
         ("input", _) => vec![&mut l.n, &mut l.c],
         ("kernel", Op::Convolution) => vec![&mut l.g, &mut l.o, &mut l.i],
         ("kernel", Op::Transposed) => vec![&mut l.g, &mut l.i, &mut l.o],
         _ => vec![],
     };
-    let along = l.spatial[unused..].iter_mut().map(|a| match key {
-        "input" => &mut a.size,
-        "kernel" => &mut a.kernel,
-        "strides" => &mut a.stride,
-        "dilations" => &mut a.dilation,
-        "pads_begin" => &mut a.begin,
-        "pads_end" => &mut a.end,
-        _ => &mut a.extra,
+    let along = l.spatial[unused..].iter_mut().filter_map(|a| match key {
+        "input" => Some(&mut a.size),
+        "kernel" => Some(&mut a.kernel),
+        "strides" => Some(&mut a.stride),
+        "dilations" => Some(&mut a.dilation),
+        "pads_begin" => Some(&mut a.begin),
+        "pads_end" => Some(&mut a.end),
+        "output_padding" => Some(&mut a.extra),
+        _ => None,
     });
     head.into_iter().chain(along).collect()
+}
+
+/// The numbers of a list.
+fn numbers(mut l: Layer, key: &str) -> Vec<u64> {
+    list(&mut l, key).iter().map(|v| **v).collect()
 }
 
 /// The numbers of a list into the layer, or number 21.
@@ -156,31 +173,49 @@ fn set_list(l: &mut Layer, key: &str, text: &[u8]) -> Result<(), u32> {
     Ok(())
 }
 
+/// The number of a line that no sheet may have as the layer has it: 21, then 22, then 23. Reader and writer refuse it alike.
+fn line_fault(l: &Layer, key: &str) -> Result<(), u32> {
+    let (pool, transposed) = (l.op == Op::MaxPool, l.op == Op::Transposed);
+    match key {
+        _ if numbers(*l, key).iter().any(|v| *v > u64::from(u32::MAX)) => Err(21),
+        "version" if l.version != 14 => Err(21),
+        "op" if l.version == 14 && !pool => Err(23),
+        "axes" if !within(l.axes, 1, 3) => Err(21),
+        "output_padding" if !transposed && l.spatial.iter().any(|a| a.extra != 0) => Err(23),
+        "rounding" if l.version == 8 && l.rounding == Rounding::CeilTorch => Err(22),
+        "rounding" if !pool && l.rounding != Rounding::Floor => Err(23),
+        "axis" if !(-9..=9).contains(&l.axis) => Err(21),
+        "axis" if !pool && l.axis != 0 => Err(23),
+        _ => Ok(()),
+    }
+}
+
 /// One line's value into the layer, or its number.
 fn set_line(l: &mut Layer, key: &str, text: &[u8]) -> Result<(), u32> {
     match key {
+        "version" => l.version = number(text).ok_or(21u32)?,
         "op" => l.op = meaning(&OPS, text)?,
-        "axes" => l.axes = number(text).filter(|n| (1..=3).contains(n)).ok_or(21u32)?,
+        "axes" => l.axes = number(text).ok_or(21u32)?,
         "auto_pad" => l.auto_pad = meaning(&AUTO_PADS, text)?,
-        "rounding" => l.ceil = meaning(&ROUNDINGS, text)?,
+        "rounding" => l.rounding = meaning(&ROUNDINGS, text)?,
         "axis" => l.axis = axis_value(text).ok_or(21u32)?,
         _ => set_list(l, key, text)?,
     }
-    let default = match key {
-        "output_padding" => l.op == Op::Transposed || l.spatial.iter().all(|a| a.extra == 0),
-        "rounding" => l.op == Op::MaxPool || !l.ceil,
-        "axis" => l.op == Op::MaxPool || l.axis == 0,
-        _ => true,
-    };
-    if default { Ok(()) } else { Err(23) }
+    line_fault(l, key)
+}
+
+/// The keys of the lines that a sheet has, and with each its line's number.
+fn lines(version_line: bool) -> impl Iterator<Item = (&'static str, u32)> {
+    KEYS.into_iter().skip(usize::from(!version_line)).zip(1..)
 }
 
 /// The layer, or the number and the line of the first bad line.
 pub fn read_sheet(sheet: &[u8]) -> Result<Layer, Refusal> {
     let mut rest = sheet;
     let mut layer = Layer::new(Op::Convolution, 1);
-    for (index, key) in KEYS.iter().enumerate() {
-        let bad = |number: u32| Refusal { line: index as u32 + 1, ..refuse(number) };
+    let version_line = sheet.starts_with(b"version=");
+    for (key, line) in lines(version_line) {
+        let bad = |number: u32| Refusal { line, ..refuse(number) };
         let head = format!("{key}=");
         let end = rest.iter().position(|b| *b == 10);
         let (Some(end), true) = (end, rest.starts_with(head.as_bytes())) else {
@@ -190,21 +225,30 @@ pub fn read_sheet(sheet: &[u8]) -> Result<Layer, Refusal> {
         set_line(&mut layer, key, &rest[head.len()..end]).map_err(bad)?;
         rest = &rest[end + 1..];
     }
-    if rest.is_empty() { Ok(layer) } else { Err(Refusal { line: 13, ..refuse(20) }) }
+    let after = if version_line { 14 } else { 13 };
+    if rest.is_empty() { Ok(layer) } else { Err(Refusal { line: after, ..refuse(20) }) }
 }
 
-/// The sheet of a layer whose lines can show it.
+/// The lines of a layer, also where no sheet may have one of them.
 pub fn show_sheet(l: &Layer) -> String {
-    let mut copy = *l;
-    let mut value = |key: &str| match key {
+    let value = |key: &str| match key {
+        "version" => l.version.to_string(),
         "op" => word(&OPS, l.op),
         "axes" => l.axes.to_string(),
         "auto_pad" => word(&AUTO_PADS, l.auto_pad),
-        "rounding" => word(&ROUNDINGS, l.ceil),
+        "rounding" => word(&ROUNDINGS, l.rounding),
         "axis" => l.axis.to_string(),
-        _ => list(&mut copy, key).iter().map(|v| v.to_string()).collect::<Vec<_>>().join(","),
+        _ => numbers(*l, key).iter().map(u64::to_string).collect::<Vec<_>>().join(","),
     };
-    KEYS.iter().map(|key| format!("{key}={}\n", value(key))).collect()
+    lines(l.version != 8).map(|(key, _)| format!("{key}={}\n", value(key))).collect()
+}
+
+/// The writer, for a layer whose unused sizes are at their defaults: its sheet, or the number and the line of the first bad line.
+pub fn write_sheet(l: &Layer) -> Result<String, Refusal> {
+    for (key, line) in lines(l.version != 8) {
+        line_fault(l, key).map_err(|number| Refusal { line, ..refuse(number) })?;
+    }
+    Ok(show_sheet(l))
 }
 
 // ---- checks 1 to 7
@@ -257,19 +301,37 @@ fn attributes_ok(op: Op, l: &Layer) -> bool {
         within(a.stride, 1, 16) && within(a.dilation, 1, 16) && a.begin <= 1024 && a.end <= 1024 && a.extra <= padding
     };
     let rank = l.axes as i64 + 2;
+    let version_ok = match l.version {
+        8 => l.rounding != Rounding::CeilTorch,
+        14 => pool,
+        _ => false,
+    };
     l.op == op
+        && version_ok
         && used.iter().all(axis_ok)
         && unused.iter().all(|a| *a == UNUSED)
         && !(transposed && matches!(l.auto_pad, AutoPad::SameUpper | AutoPad::SameLower))
-        && if pool { (-rank..rank).contains(&l.axis) && (l.g, l.o, l.i) == (1, 1, 1) } else { !l.ceil && l.axis == 0 }
+        && if pool { (-rank..rank).contains(&l.axis) && (l.g, l.o, l.i) == (1, 1, 1) } else { l.rounding == Rounding::Floor && l.axis == 0 }
 }
 
 fn ceil_div(a: i64, b: i64) -> i64 {
     (a + b - 1).div_euclid(b)
 }
 
+/// The explicit size of an input n with these pads, k being k'.
+fn explicit_size(rounding: Rounding, n: i64, begin: i64, end: i64, k: i64, s: i64) -> i64 {
+    let room = n + begin + end - k;
+    let ceil = ceil_div(room, s) + 1;
+    match rounding {
+        Rounding::Floor => room / s + 1,
+        // The last window would start at or past the input's end.
+        Rounding::CeilTorch if (ceil - 1) * s >= n + begin => ceil - 1,
+        Rounding::Ceil | Rounding::CeilTorch => ceil,
+    }
+}
+
 /// Number 5, or the size along one axis.
-fn size_along(op: Op, mode: AutoPad, ceil: bool, a: &Axis) -> Option<Along> {
+pub fn size_along(op: Op, mode: AutoPad, rounding: Rounding, a: &Axis) -> Option<Along> {
     let (n, s) = (a.size as i64, a.stride as i64);
     let k = (a.kernel as i64 - 1) * a.dilation as i64 + 1;
     let (begin, end) = match mode {
@@ -280,26 +342,14 @@ fn size_along(op: Op, mode: AutoPad, ceil: bool, a: &Axis) -> Option<Along> {
             if mode == AutoPad::SameUpper { (total / 2, total - total / 2) } else { (total - total / 2, total / 2) }
         }
     };
-    let ceil = ceil && op == Op::MaxPool;
-    let out = if op == Op::Transposed {
-        (n - 1) * s + k - begin - end + a.extra as i64
-    } else {
-        match mode {
-            AutoPad::Explicit => {
-                let room = n + begin + end - k;
-                if room < 0 {
-                    return None;
-                }
-                if ceil { ceil_div(room, s) + 1 } else { room / s + 1 }
-            }
-            AutoPad::Valid => {
-                if n < k {
-                    return None;
-                }
-                if ceil { ceil_div(n - k, s) + 1 } else { ceil_div(n - k + 1, s) }
-            }
-            _ => ceil_div(n, s),
-        }
+    let rounding = if op == Op::MaxPool { rounding } else { Rounding::Floor };
+    let out = match (op, mode) {
+        (Op::Transposed, _) => (n - 1) * s + k - begin - end + a.extra as i64,
+        (_, AutoPad::Explicit) if n + begin + end < k => return None,
+        (_, AutoPad::Valid) if n < k => return None,
+        (_, AutoPad::Valid) if rounding == Rounding::Floor => ceil_div(n - k + 1, s),
+        (_, AutoPad::Explicit | AutoPad::Valid) => explicit_size(rounding, n, begin, end, k, s),
+        (_, AutoPad::SameUpper | AutoPad::SameLower) => ceil_div(n, s),
     };
     (out >= 1).then_some(Along { begin, out })
 }
@@ -332,7 +382,7 @@ pub fn judge(op: Op, l: &Layer) -> Result<Shape, Refusal> {
     check(4, (pool || taps <= 4096) && inputs <= LARGEST && weights <= LARGEST)?;
     let mut along = [Along { begin: 0, out: 0 }; 3];
     for (s, a) in along.iter_mut().zip(&l.spatial) {
-        *s = size_along(op, l.auto_pad, l.ceil, a).ok_or(refuse(5))?;
+        *s = size_along(op, l.auto_pad, l.rounding, a).ok_or(refuse(5))?;
     }
     let channels = if pool { l.c } else { l.g * l.o };
     let outputs = along.iter().fold(product(&[l.n, channels]), |p, s| p * s.out as u128);

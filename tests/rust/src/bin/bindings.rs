@@ -181,7 +181,42 @@ fn check_three_axes(c: &mut Compared) {
 const LENGTH: &str = "number 8: a buffer's length is not exactly its element count (elements, not bytes: koza_lengths tells them)";
 const OPERATOR: &str = "number 2: an attribute outside its limit, a sheet of another operator, a same mode with transposed, axis outside its range, or an \
                         unused field not at its default";
-const FIRST_KEY: &str = "number 20: the sheet: a wrong key or no line end, or bytes left over (line 13); at line 1";
+const KEY: &str = "number 20: the sheet: a wrong key or no line end, or bytes left over (line 13, or 14 with a version line)";
+const NUMBER: &str = "number 21: the sheet: a number, or a count of numbers, that breaks the rules, or a version line other than version=14";
+const WORD: &str = "number 22: the sheet: an unknown word, as is ceil_torch without a version line";
+const UNUSED: &str = "number 23: the sheet: a line that its operator does not use is not at its default, or a version line before another operator than \
+                      maxpool";
+const EMPTY: &str = "number 7: pooling: some window holds no element";
+const SHORT: &str = "number 24: the buffer is shorter than the sheet";
+
+/// A text and a line after it.
+fn at_line(text: &str, line: u32) -> String {
+    format!("{text}; at line {line}")
+}
+
+/// MaxPool-14: document 01's pooling of three elements, kernel 2, stride 2, pads 1. Its windows start at -1, 1 and 3; ceil_torch leaves out the third, which
+/// holds no element, ceil has it and is refused.
+fn check_version_14(c: &mut Compared) {
+    let eight = sheet("maxpool", "1,1,3", "2", 2).replacen("begin=0", "begin=1", 1).replacen("end=0", "end=1", 1).replacen("floor", "ceil_torch", 1);
+    let pool = format!("version=14\n{eight}");
+    let (mut values, mut indices, mut buffer) = ([7.0; 2], [7; 2], [7; SHEET_MAX]);
+    c.same("shape", shape(pool.as_bytes()), Ok(Shape { axes: 1, n: 1, c: 1, z: 1, y: 1, x: 2 }));
+    c.same("lengths of a pooling", lengths(pool.as_bytes()), Ok(Lengths { input: 3, kernel: 0, output: 2 }));
+    c.same("maxpool", maxpool(pool.as_bytes(), &[5.0, 1.0, 4.0], &mut values, &mut indices), Ok(()));
+    c.same("the values and indices of a pooling", (values, indices), ([5.0, 4.0], [0, 2]));
+    c.same("rewrite", rewrite(pool.as_bytes(), &mut buffer), Ok(pool.len()));
+    c.same("the sheet that was written", &buffer[..pool.len()], pool.as_bytes());
+    c.refused(rewrite(pool.as_bytes(), &mut buffer[..pool.len() - 1]), SHORT);
+
+    let edited = |from: &str, to: &str| shape(pool.replacen(from, to, 1).as_bytes());
+    c.refused(edited("ceil_torch", "ceil"), EMPTY);
+    c.refused(edited("version=14", "version=15"), &at_line(NUMBER, 1));
+    c.refused(edited("version=14", "version:14"), &at_line(KEY, 1));
+    c.refused(edited("maxpool", "convolution"), &at_line(UNUSED, 2));
+    c.refused(edited("ceil_torch", "torch"), &at_line(WORD, 12));
+    c.refused(edited("axis=0\n", "axis=0\n\n"), &at_line(KEY, 14));
+    c.refused(shape(eight.as_bytes()), &at_line(WORD, 11));
+}
 
 /// Operators that are refused.
 fn check_refused_operators(c: &mut Compared) {
@@ -195,17 +230,17 @@ fn check_refused_operators(c: &mut Compared) {
     c.refused(convolution(conv, &pair, &[], &mut sum), LENGTH);
     c.refused(convolution(conv, &pair, &bad, &mut sum), "number 9: an element above 2^40 in magnitude or NaN; the kernel has 1 bad element, at 1");
     c.refused(convolution(conv, &bad, &[2e12; 2], &mut sum), "number 9: an element above 2^40 in magnitude or NaN; the input has 1 bad element, at 1");
-    c.refused(convolution(&[], &[], &[], &mut []), FIRST_KEY);
+    c.refused(convolution(&[], &[], &[], &mut []), &at_line(KEY, 1));
     c.refused(transposed(trans, &[], &[1.0; 3], &mut sums), LENGTH);
     let three = [-2e12; 3];
     c.refused(transposed(trans, &pair, &three, &mut sums), "number 9: an element above 2^40 in magnitude or NaN; the kernel has 3 bad elements, the first at 0");
     c.refused(transposed(conv, &pair, &pair, &mut sum), OPERATOR);
-    c.refused(transposed(&[], &[], &[], &mut []), FIRST_KEY);
+    c.refused(transposed(&[], &[], &[], &mut []), &at_line(KEY, 1));
     c.refused(maxpool(pool, &rising(), &mut values, &mut []), LENGTH);
     let two = "number 9: an element above 2^40 in magnitude or NaN; the input has 2 bad elements, the first at 5";
     c.refused(maxpool(pool, &bad_input, &mut values, &mut indices), two);
     c.refused(maxpool(trans, &pair, &mut values, &mut indices), OPERATOR);
-    c.refused(maxpool(&[], &[], &mut [], &mut []), FIRST_KEY);
+    c.refused(maxpool(&[], &[], &mut [], &mut []), &at_line(KEY, 1));
 
     let fields = Error { number: 9, line: 0, tensor: Some(Tensor::Kernel), place: 1, bad: 1 };
     c.same("the fields of a refusal", convolution(conv, &pair, &bad, &mut sum), Err(fields));
@@ -224,20 +259,20 @@ fn check_refused_sheets(c: &mut Compared) {
     c.refused(convolution("1,65,64", "1,1,65,64"), "number 4: more than 4,096 taps, or more than 16,777,216 elements in input or kernel");
     c.refused(edited("kernel=2,2", "kernel=2,4"), "number 5: the kernel does not fit on some axis, or a transposed output size is below 1");
     c.refused(convolution("16,1,4096", "1,1024,1,1"), "number 6: more than 16,777,216 output elements");
-    c.refused(edited("pads_begin=0,0", "pads_begin=2,0"), "number 7: pooling: some window holds no element");
-    c.refused(edited("axis=2\n", "axis=2\n\n"), "number 20: the sheet: a wrong key or no line end, or bytes left over (line 13); at line 13");
-    c.refused(edited("axes=2", "axes=4"), "number 21: the sheet: a number, or a count of numbers, that breaks the rules; at line 2");
-    c.refused(edited("axes=2", "axes=3"), "number 21: the sheet: a number, or a count of numbers, that breaks the rules; at line 3");
-    c.refused(edited("floor", "round"), "number 22: the sheet: an unknown word; at line 11");
-    c.refused(edited("g=0,0", "g=0,1"), "number 23: the sheet: a line that its operator does not use is not at its default; at line 10");
-    c.refused(lengths(b"op=pool\n"), "number 22: the sheet: an unknown word; at line 1");
-    c.refused(lengths(&[]), FIRST_KEY);
+    c.refused(edited("pads_begin=0,0", "pads_begin=2,0"), EMPTY);
+    c.refused(edited("axis=2\n", "axis=2\n\n"), &at_line(KEY, 13));
+    c.refused(edited("axes=2", "axes=4"), &at_line(NUMBER, 2));
+    c.refused(edited("axes=2", "axes=3"), &at_line(NUMBER, 3));
+    c.refused(edited("floor", "round"), &at_line(WORD, 11));
+    c.refused(edited("g=0,0", "g=0,1"), &at_line(UNUSED, 10));
+    c.refused(lengths(b"op=pool\n"), &at_line(WORD, 1));
+    c.refused(lengths(&[]), &at_line(KEY, 1));
     c.same("the fields of a refusal", lengths(b"op=pool\n"), Err(Error { number: 22, line: 1, tensor: None, place: 0, bad: 0 }));
 
     let mut buffer = [7; SHEET_MAX];
-    c.refused(rewrite(POOL.as_bytes(), &mut buffer[..POOL.len() - 1]), "number 24: the buffer is shorter than the sheet");
-    c.refused(rewrite(POOL.as_bytes(), &mut []), "number 24: the buffer is shorter than the sheet");
-    c.refused(rewrite(&[], &mut buffer), FIRST_KEY);
+    c.refused(rewrite(POOL.as_bytes(), &mut buffer[..POOL.len() - 1]), SHORT);
+    c.refused(rewrite(POOL.as_bytes(), &mut []), SHORT);
+    c.refused(rewrite(&[], &mut buffer), &at_line(KEY, 1));
     c.same("the buffer of a refused sheet", buffer, [7; SHEET_MAX]);
 }
 
@@ -266,6 +301,7 @@ fn main() {
     check_texts(&mut c, &header);
     check_accepted(&mut c);
     check_three_axes(&mut c);
+    check_version_14(&mut c);
     check_refused_operators(&mut c);
     check_refused_sheets(&mut c);
     check_refused_planes(&mut c);

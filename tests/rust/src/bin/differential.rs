@@ -2,7 +2,7 @@
 //! usage: differential [CALLS] [SEED]      (100,000 calls and seed 1 by default)
 use kozamyure::answers::{self, Answer, LengthsAnswer, Part, ShapeAnswer, Written};
 use kozamyure_tests::generate::{self, Kind, Pick, Random};
-use kozamyure_tests::reference::{self, AutoPad, Layer, Op, Refusal, Shape, Sum, X, Y, Z};
+use kozamyure_tests::reference::{self, AutoPad, Layer, Op, Refusal, Rounding, Shape, Sum, X, Y, Z};
 use std::collections::{BTreeMap, BTreeSet};
 use std::process::ExitCode;
 
@@ -36,11 +36,23 @@ struct Counts {
     bad: BTreeMap<(&'static str, &'static str), u64>,
     /// Calls of max pooling with valid and ceil, by what they are beside floor.
     valid_ceil: BTreeMap<&'static str, u64>,
+    /// Calls of max pooling with ceil_torch, by what they are beside ceil.
+    ceil_torch: BTreeMap<&'static str, u64>,
+    /// Accepted calls of max pooling, by version.
+    accepted: BTreeMap<u64, u64>,
+    /// Sheets that begin with `version=` and were refused, by the line.
+    refused_lines: BTreeMap<u32, u64>,
     failures: u64,
 }
 
 /// What valid with ceil is beside valid with floor: each must be seen.
 const VALID_CEIL: [&str; 4] = ["the same size", "a larger size", "7 in place of 0", "5 with both"];
+
+/// What ceil_torch is beside ceil: each must be seen.
+const CEIL_TORCH: [&str; 6] = ["ceil's sizes", "a window less", "a window less with valid", "7 with ceil's sizes", "7 with a window less", "5"];
+
+/// The lines of a sheet with a version line, and the line after the last: each must be seen refused.
+const VERSION_LINES: [u32; 14] = [1, 2, 3, 4, 5, 6, 7, 8, 9, 10, 11, 12, 13, 14];
 
 /// What is refused with 9, and with how many bad elements: each of them with each must be seen.
 const BAD: [&str; 4] = ["input", "kernel", "input before a bad kernel", "plane"];
@@ -90,7 +102,7 @@ impl Counts {
     /// A layer of max pooling with valid and ceil; one that another number refuses does not count.
     fn see_valid_ceil(&mut self, l: &Layer) {
         let [same, larger, empty, unfit] = VALID_CEIL;
-        let floor = Layer { ceil: false, ..*l };
+        let floor = Layer { rounding: Rounding::Floor, ..*l };
         let outputs = |l: &Layer| reference::judge(Op::MaxPool, l).map(|s| s.outputs).map_err(|e| e.number);
         let what = match (outputs(l), outputs(&floor)) {
             (Ok(n), Ok(m)) if n == m => same,
@@ -100,6 +112,34 @@ impl Counts {
             _ => return,
         };
         *self.valid_ceil.entry(what).or_default() += 1;
+    }
+
+    /// A layer of max pooling with ceil_torch; one that another number refuses does not count.
+    fn see_ceil_torch(&mut self, l: &Layer) {
+        let [same, less, less_with_valid, empty, less_and_empty, unfit] = CEIL_TORCH;
+        let sizes = |rounding| l.spatial.map(|a| reference::size_along(Op::MaxPool, l.auto_pad, rounding, &a));
+        let fewer = || sizes(Rounding::CeilTorch) != sizes(Rounding::Ceil);
+        let what = match reference::judge(Op::MaxPool, l).map_err(|e| e.number) {
+            Ok(_) if fewer() => if l.auto_pad == AutoPad::Valid { less_with_valid } else { less },
+            Ok(_) => same,
+            Err(7) if fewer() => less_and_empty,
+            Err(7) => empty,
+            Err(5) => unfit,
+            Err(_) => return,
+        };
+        *self.ceil_torch.entry(what).or_default() += 1;
+    }
+
+    /// A call of max pooling with a layer of its own.
+    fn see_pooling(&mut self, l: &Layer, number: u32) {
+        match l.rounding {
+            Rounding::Ceil if l.auto_pad == AutoPad::Valid => self.see_valid_ceil(l),
+            Rounding::CeilTorch => self.see_ceil_torch(l),
+            _ => {}
+        }
+        if number == 0 {
+            *self.accepted.entry(l.version).or_default() += 1;
+        }
     }
 
     /// The rows of an accepted call. With one tap a dilation means nothing, so such a kernel does not count.
@@ -177,23 +217,27 @@ fn check_lengths(counts: &mut Counts, sheet: &[u8], judged: &Judged) {
     }
 }
 
-/// The sheet written back: the same bytes for every sheet that is read, and a short buffer left alone.
-fn check_rewrite(r: &mut Random, counts: &mut Counts, sheet: &[u8], read: &Result<Layer, Refusal>) {
+/// The sheet written back: the same bytes for every sheet that is read, and a short buffer left alone. What the writer refuses of a layer, the reader refuses
+/// of its lines.
+fn check_rewrite(r: &mut Random, counts: &mut Counts, sheet: &[u8], made_of: &Layer) {
     let room = if r.chance(4) { r.range(0, sheet.len() as u64 + 3) as usize } else { sheet.len() + r.range(0, 4) as usize };
     let before: Vec<u8> = (0..room).map(|_| r.draw() as u8).collect();
     let mut buffer = before.clone();
     let got = answers::rewrite(sheet, &mut buffer);
+    let damaged = reference::show_sheet(made_of).as_bytes() != sheet;
+    let layer = if damaged { reference::read_sheet(sheet) } else { Ok(*made_of) };
+    let written = layer.and_then(|l| reference::write_sheet(&l));
     let mut after = before;
-    let expected = match read {
+    let expected = match &written {
         Err(e) => Written { number: e.number, line: e.line, length: 0 },
-        Ok(_) if room < sheet.len() => Written { number: 24, line: 0, length: 0 },
-        Ok(_) => {
-            after[..sheet.len()].copy_from_slice(sheet);
+        Ok(text) if room < text.len() => Written { number: 24, line: 0, length: 0 },
+        Ok(text) => {
+            after[..text.len()].copy_from_slice(text.as_bytes());
             counts.rewritten += 1;
-            Written { number: 0, line: 0, length: sheet.len() }
+            Written { number: 0, line: 0, length: text.len() }
         }
     };
-    if got != expected || buffer != after {
+    if got != expected || buffer != after || written.is_ok_and(|text| text.as_bytes() != sheet) {
         counts.fail("rewrite", sheet, format!("{got:?}, expected {expected:?}"));
     }
 }
@@ -271,8 +315,8 @@ fn check_maxpool(r: &mut Random, counts: &mut Counts, call: &Call, indices: usiz
     if got != expected || bits(&values) != v || found != p {
         counts.fail("maxpool", call.sheet, format!("{got:?}, expected {expected:?}; values {values:?}, indices {found:?}"));
     }
-    if let Some(l) = call.layer.filter(|l| l.op == Op::MaxPool && l.auto_pad == AutoPad::Valid && l.ceil) {
-        counts.see_valid_ceil(l);
+    if let Some(l) = call.layer.filter(|l| l.op == Op::MaxPool) {
+        counts.see_pooling(l, expected.number);
     }
     counts.outputs += result.map_or(0, |(v, _)| v.len() as u64);
     got.number
@@ -375,11 +419,14 @@ fn one_call(r: &mut Random, counts: &mut Counts) {
     }
     let sheet = generate::sheet(r, &layer);
     let read = reference::read_sheet(&sheet);
+    if let (Err(e), true) = (read, sheet.starts_with(b"version=")) {
+        *counts.refused_lines.entry(e.line).or_default() += 1;
+    }
     let judged = read.and_then(|l| reference::judge(l.op, &l).map(|s| (l, s)));
     check_shape(counts, &sheet, &judged);
     check_lengths(counts, &sheet, &judged);
     if r.chance(8) {
-        check_rewrite(r, counts, &sheet, &read);
+        check_rewrite(r, counts, &sheet, &layer);
     }
     if r.chance(8) {
         check_peak(r, counts);
@@ -500,6 +547,22 @@ fn report_valid_ceil(counts: &Counts, made: u64) -> bool {
     met(seen.iter().all(|(_, n)| *n > 0), "calls of valid with ceil", made)
 }
 
+/// Whether ceil_torch was met with all that it can be beside ceil.
+fn report_ceil_torch(counts: &Counts, made: u64) -> bool {
+    let seen = times(&counts.ceil_torch, CEIL_TORCH);
+    println!("ceil_torch beside ceil: {}", seen.map(|(what, n)| format!("{what} {n}")).join(", "));
+    met(seen.iter().all(|(_, n)| *n > 0), "calls of ceil_torch", made)
+}
+
+/// Whether both versions were accepted, and each line of a sheet with a version line refused.
+fn report_versions(counts: &Counts, made: u64) -> bool {
+    let (accepted, refused) = (times(&counts.accepted, [8, 14]), times(&counts.refused_lines, VERSION_LINES));
+    println!("accepted calls of max pooling: {}", accepted.map(|(version, n)| format!("version {version} {n}")).join(", "));
+    println!("refused lines of sheets with a version line: {}", refused.map(|(line, n)| format!("{line}: {n}")).join(", "));
+    let counted = accepted.iter().map(|(_, n)| n).chain(refused.iter().map(|(_, n)| n));
+    met(counted.min() > Some(&0), "versions or lines", made)
+}
+
 fn main() -> ExitCode {
     let args: Vec<u64> = std::env::args().skip(1).map(|a| a.parse().expect("numbers: CALLS SEED")).collect();
     let calls = args.first().copied().unwrap_or(100_000);
@@ -514,7 +577,8 @@ fn main() -> ExitCode {
     println!("{made} calls and {} with the largest tensors", counts.largest);
     println!("{} outputs, {} of them whole, {} in the exact case", counts.outputs, counts.whole, counts.exact);
     println!("{} peaks, {} sheets written back", counts.peaks, counts.rewritten);
-    let reports = [report_numbers, report_rows, report_planes, report_bad, report_valid_ceil, report_three_axes];
+    let reports =
+        [report_numbers, report_rows, report_planes, report_bad, report_valid_ceil, report_ceil_torch, report_versions, report_three_axes];
     let all_seen = reports.map(|report| report(&counts, made)).iter().all(|seen| *seen);
     if counts.failures > 0 {
         println!("{} comparisons FAILED", counts.failures);
