@@ -215,10 +215,11 @@ fn explicit_out(rounding: Rounding, p: Pads, a: Axis) -> usize
     let end = p.end;
     let room = a.input as usize + begin + end - dilated_kernel(a);
     let stride = a.stride as usize;
+    let ceil = ceil_div(room, stride) + 1;
     match rounding {
         Rounding::Floor => room / stride + 1,
-        Rounding::Ceil => ceil_div(room, stride) + 1,
-        Rounding::CeilTorch => less_last(p, a, ceil_div(room, stride) + 1),
+        Rounding::Ceil => ceil,
+        Rounding::CeilTorch => less_last(p, a, ceil),
     }
 }
 
