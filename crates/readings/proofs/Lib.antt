@@ -4,3 +4,4 @@ pub mod Convolution
 pub mod Transposed
 pub mod Pooling
 pub mod Calls
+pub mod Versions

@@ -1,2 +1,3 @@
 pub mod Pooling
 pub mod Calls
+pub mod Versions
