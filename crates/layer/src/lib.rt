@@ -37,8 +37,8 @@ pub struct Axis {
     pub output_padding: u32,
 }
 
-// A layer. The version is that of its operator: 8, or 14 for MaxPool-14. The input is [n, c, z, y, x], the kernel [g, o, i, kz, ky, kx] or, transposed, [g, i, o, kz, ky, kx]. With two axes z is not used, with one
-// neither z nor y.
+// A layer. The version is that of its operator: 8, or 14 for MaxPool-14. The input is [n, c, z, y, x], the kernel [g, o, i, kz, ky, kx] or, transposed,
+// [g, i, o, kz, ky, kx]. With two axes z is not used, with one neither z nor y.
 pub struct Layer {
     pub version: u32,
     pub op: Op,

@@ -1,4 +1,5 @@
-// The reader of a sheet's lines over lent bytes: the version line, and the twelve others three at a time. Line numbers are counted from `first`, that of the line `op=`.
+// The reader of a sheet's lines over lent bytes: the version line, and the twelve others three at a time. Line numbers are counted from `first`, that of the
+// line `op=`.
 use fields::kernel_numbers;
 use fields::padded_layer;
 use fields::sized_layer;
@@ -53,7 +54,7 @@ fn not_read(r: ThreeLines) -> Read
 }
 
 // The line `op=`, whose operator the version has.
-fn op_line(version: u32, s: &[u8], at: usize) -> LineAnswer
+fn read_op(version: u32, s: &[u8], at: usize) -> LineAnswer
     ensures { λ r. ⌜ parsed r ≡ unlessTaken (opTaken version) (fieldLine (text "op=") Field.OpWord (now (s .entry)) at) ⌝ }
 {
     let r = line_at(s, at, b"op=", Field::OpWord, ALWAYS);
@@ -71,7 +72,7 @@ fn read_first(version: u32, first: u8, s: &[u8], at0: usize) -> ThreeLines
     ensures { λ r. ⌜ ReadThree (firstLines version) first (first + 3) (now (s .entry)) at0 r ⌝ }
 {
     let line = first as u32;
-    let mut r = op_line(version, s, at0);
+    let mut r = read_op(version, s, at0);
     let LineAnswer::LineAt(op, at1) = r else {
         return refuse(r, line);
     };

@@ -9,19 +9,19 @@ use Rattle.reader.proofs.read_first.Tie as tie
 
 returns : tie.Need-returns
 returns c more =
-    bad-line _ _ _ _ _ _ _ _ (c .before .before .before .op-line .ensures) (c .before .enum-told .given .1) (c .refuse .ensures) (omega arith) _
+    bad-line _ _ _ _ _ _ _ _ (c .before .before .before .read-op .ensures) (c .before .enum-told .given .1) (c .refuse .ensures) (omega arith) _
 
 returns-2 : tie.Need-returns-2
 returns-2 c more =
     let c1 = c .before .before .before .before .before .before in
-    went-on _ _ _ _ _ _ _ _ (c1 .before .before .op-line .ensures) (c1 .r .given .1) ∙
+    went-on _ _ _ _ _ _ _ _ (c1 .before .before .read-op .ensures) (c1 .r .given .1) ∙
     bad-line _ _ _ _ _ _ _ _ (c .before .before .before .line-at .ensures) (c .before .enum-told2 .given .1) (c .refuse2 .ensures) (omega arith) _
 
 returns-3 : tie.Need-returns-3
 returns-3 c more =
     let c2 = c .before .before .before .before .before .before .before in
     let c1 = c2 .before .before .before .before .before in
-    went-on _ _ _ _ _ _ _ _ (c1 .before .before .op-line .ensures) (c1 .r .given .1) ∙
+    went-on _ _ _ _ _ _ _ _ (c1 .before .before .read-op .ensures) (c1 .r .given .1) ∙
     went-on _ _ _ _ _ _ _ _ (c2 .before .before .line-at .ensures) (c2 .r2 .given .1) ∙
     bad-line _ _ _ _ _ _ _ _ (c .before .before .before .line-at2 .ensures) (c .before .enum-told3 .given .1) (c .refuse3 .ensures) (omega arith) _
 
@@ -30,7 +30,7 @@ returns-4 c more =
     let c3 = c .before in
     let c2 = c3 .before .before .before .before .before .before in
     let c1 = c2 .before .before .before .before .before in
-    went-on _ _ _ _ _ _ _ _ (c1 .before .before .op-line .ensures) (c1 .r .given .1) ∙
+    went-on _ _ _ _ _ _ _ _ (c1 .before .before .read-op .ensures) (c1 .r .given .1) ∙
     went-on _ _ _ _ _ _ _ _ (c2 .before .before .line-at .ensures) (c2 .r2 .given .1) ∙
     went-on _ _ _ _ _ _ _ _ (c3 .before .before .line-at2 .ensures) (c3 .r3 .given .1) ∙ three-read more _ _ _ _ _ (omega arith)
 
