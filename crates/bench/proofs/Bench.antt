@@ -4,9 +4,9 @@ use native.Mathlib.Omega.{arith}
 use lib.Dec.{lit≤}
 use lib.Ieee.{add, mul, lt, ofInt}
 use Rattle.sizes.specs.Size.{ceilDiv, dilatedKernel, validOut, sameOut, sameTotal, transposedOut}
-use Rattle.sizes.specs.Taps.{anyBelow}
+use Rattle.taps.specs.Taps.{anyBelow}
 use Rattle.sizes.specs.Sizing.{axisDimensionsOk, axisAttributesOk}
-use Rattle.sizes.specs.Joins.{forward, positionBy, reachOf, backward, both, isAt}
+use Rattle.taps.specs.Joins.{forward, positionBy, reachOf, backward, both, isAt}
 use Rattle.counts.specs.Index.{modulus}
 use Rattle.shape.specs.Volumes.{inputRows, kernelRows, outRows, onRows, onPlane}
 use Rattle.shape.specs.Windows.{windowEmpty, someEmpty}

@@ -14,7 +14,7 @@ use Rattle.layer.specs.declared.Rounding.the-variants.{Floor}
 use Rattle.layer.specs.declared.Layer.{Layer}
 use Rattle.layer.specs.Answers.{numbered}
 use Rattle.sizes.specs.declared.Span.{Span}
-use Rattle.sizes.specs.Taps.{tapPosition}
+use Rattle.taps.specs.Taps.{tapPosition}
 use Rattle.shape.specs.declared.Shape.{Shape}
 use Rattle.shape.specs.Counts.{shapeOf}
 use Rattle.tensor.specs.declared.Window.the-variants.{Empty}

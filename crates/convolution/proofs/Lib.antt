@@ -1,5 +1,6 @@
--- Laws of convolution: its places, the bounds of what the code computes, its kernel rows, its rows of outputs.
+-- Laws of convolution: its places, its taps inside the input, the bounds of what the code computes, the sums of neighbouring outputs, the outputs.
 pub mod Places
+pub mod Inside
 pub mod Bounds
-pub mod Rows
-pub mod Lines
+pub mod Runs
+pub mod Outputs

@@ -1,268 +1,359 @@
-// Convolution over lent f32 tensors.
+// Convolution over lent f32 tensors. A sum runs over the taps that lie inside the input: along each axis over a range of them.
 use call::Verdict;
 use call::check_sum;
 use layer::Answer;
 use layer::Layer;
 use layer::Op;
-use padded::add_across;
-use padded::add_outside;
-use padded::columns_before;
-use padded::kernel_row_sum;
+use rows::add_taps;
 use rows::start;
 use shape::Shape;
 use shape::input_rows;
-use shape::kernel_rows;
 use shape::out_rows;
-use shape::row_tap;
-use sizes::Direction;
-use sizes::Tap;
+use sizes::least;
+use taps::Taps;
+use taps::outputs_inside;
+use taps::position_of;
+use taps::run_from;
+use taps::taps_inside;
 ghost use mathlib.Core.Path.{_≡_};
 ghost use Prim.Native.Nat.{_+_, _*_, _≤_, _<_};
 ghost use lib.ListN.{length};
-ghost use Rattle.sizes.specs.Joins.{Below};
+ghost use Rattle.taps.specs.Taps.{Alike};
 ghost use Rattle.shape.specs.Facts.{Grouped};
-ghost use Rattle.shape.specs.Volumes.{kernelRows};
+ghost use Rattle.shape.specs.Volumes.{kernelVolume};
 ghost use Rattle.tensor.specs.Table.{tabulate};
-ghost use Rattle.sums.specs.Taps.{tapAt, sumFrom, outputOf};
+ghost use Rattle.sums.specs.Taps.{outputOf};
 ghost use Rattle.rows.specs.Rows.{Summed};
 ghost use Rattle.call.specs.Call.{answerOf, contentsOf, WholeOutputs, FiniteOutputs};
 ghost use Rattle.call.specs.Fitting.{Fitting};
 ghost use Rattle.convolution.specs.Convolution.{placeOf};
-ghost use Rattle.convolution.specs.Rows.{firstTapOf, lastFirstTap, placeFrom, rowPart, valuesOf, weightsOf, Within, lineTaps};
+ghost use Rattle.convolution.specs.Inside.{lineTaps, channelTaps, depthTaps, rowTaps, planeTaps, rowNumber, valuesOf, weightsOf, LineOf, DepthInside, RowInside, FirstInside, BlockInside, ColumnsInside};
 
-// The first taps of a row of outputs: their plane of the input, their weight, and the row's number in its plane.
-struct FirstTap {
+// A row of outputs, by its number among all rows: the first plane of its group in the input, its first weight, its depth and row in its plane, and its taps along
+// z and y that lie inside the input.
+struct Line {
+    number: usize,
     plane: usize,
     weight: usize,
+    depth: u32,
+    row: u32,
+    depths: Taps,
+    rows: Taps,
+}
+
+// A kernel row: its channel among those of its group, its depth and its row there.
+struct KernelRow {
+    channel: usize,
+    depth: u32,
     row: u32,
 }
 
-// A kernel row: its channel among those of its group, its row in that channel's kernel, and its number among the rows of all channels.
-struct KernelRow {
-    channel: usize,
-    row: usize,
-    number: usize,
+// Outputs of a row that follow one another, from number `output` on, and taps along x, `count` of them from `first` on. Alike: these are the taps that each of the
+// outputs has inside the input.
+struct Columns {
+    output: u32,
+    alike: bool,
+    first: usize,
+    count: usize,
 }
 
-// The part of the input that is the row of a plane at which a tap lies: empty outside the input.
-fn row_part(input: &[f32], plane: usize, height: usize, width: usize, tap: Tap) -> &[f32]
-    requires { ⌜ (1 ≤ width) × ((plane * height + height) * width ≤ length (now input)) ⌝ }
-    requires { ⌜ Below height tap ⌝ }
-    ensures { λ r. ⌜ now r ≡ rowPart (now (input .entry)) plane height width tap ⌝ }
-{
-    let Tap::At(y) = tap else {
-        return &input[0..0];
-    };
-    let start = (plane * height + y) * width;
-    let end = start + width;
-    &input[start..end]
-}
-
-// The row of the input under a kernel row, for the outputs with these first taps: empty outside the input.
-fn values_of(s: Shape, input: &[f32], f: FirstTap, at: KernelRow) -> &[f32]
-    requires { ⌜ Grouped s × (length (now input) ≡ s .inputs) ⌝ }
-    requires { ⌜ Within s f × ((at .channel < s .i) × (at .row < kernelRows s)) ⌝ }
-    ensures { λ v. ⌜ now v ≡ valuesOf s (now (input .entry)) f (at .channel) (at .row) ⌝ }
-{
-    let tap = row_tap(Direction::Forward, s, f.row, at.row as u32);
-    row_part(
-        input,
-        f.plane + at.channel,
-        input_rows(s),
-        s.x.input as usize,
-        tap,
-    )
-}
-
-// The weights of that kernel row.
-fn weights_of(s: Shape, kernel: &[f32], f: FirstTap, at: KernelRow) -> &[f32]
-    requires { ⌜ Grouped s × (length (now kernel) ≡ s .weights) ⌝ }
-    requires { ⌜ Within s f × ((at .channel < s .i) × (at .row < kernelRows s)) ⌝ }
-    requires { ⌜ at .number ≡ at .channel * kernelRows s + at .row ⌝ }
-    ensures { λ v. ⌜ now v ≡ weightsOf s (now (kernel .entry)) f (at .channel) (at .row) ⌝ }
-{
-    let taps = s.x.kernel as usize;
-    let start = f.weight + at.number * taps;
-    let end = start + taps;
-    &kernel[start..end]
-}
-
-// The first taps of row number `line` of all rows of outputs.
-fn first_tap(s: Shape, line: usize) -> FirstTap
+// Row number `number` of all rows of outputs.
+fn line_of(s: Shape, number: usize) -> Line
     requires { ⌜ Grouped s ⌝ }
-    requires { ⌜ line * s .x .out < s .outputs ⌝ }
-    ensures { λ r. ⌜ r ≡ firstTapOf s line ⌝ }
+    requires { ⌜ number * s .x .out < s .outputs ⌝ }
+    ensures { λ r. ⌜ (r .number ≡ number) × LineOf s r ⌝ }
 {
     let rows = out_rows(s);
-    let plane = line / rows;
-    let row = line % rows;
-    FirstTap {
+    let plane = number / rows;
+    let place = number % rows;
+    let depth = (place / s.y.out as usize) as u32;
+    let row = (place % s.y.out as usize) as u32;
+    let depths = taps_inside(s.z, depth);
+    let rows_inside = taps_inside(s.y, row);
+    Line {
+        number,
         plane: plane / s.o * s.i,
         weight: plane % s.channels * s.taps,
-        row: row as u32,
+        depth,
+        row,
+        depths,
+        rows: rows_inside,
     }
 }
 
-// The kernel row after this one, where each channel has `rows`.
-fn next_row(at: KernelRow, rows: usize) -> KernelRow
-    requires { ⌜ (at .row < rows) × ((at .channel * rows + at .row ≡ at .number) × (at .number < 4096)) ⌝ }
-    ensures { λ r. ⌜ (r .row < rows) × ((r .channel * rows + r .row ≡ r .number) × (r .number ≡ at .number + 1)) ⌝ }
+// ---- a kernel row inside the input
+
+// The number, among all rows of the input, of the one under a kernel row.
+fn row_number(s: Shape, f: Line, r: KernelRow) -> usize
+    requires { ⌜ Grouped s × (LineOf s f × RowInside s f r) ⌝ }
+    ensures { λ v. ⌜ v ≡ rowNumber s f r ⌝ }
 {
-    let row = at.row + 1;
-    let number = at.number + 1;
-    if row < rows {
-        return KernelRow {
-            channel: at.channel,
-            row,
-            number,
-        };
+    let z = position_of(s.z, f.depth, r.depth);
+    let y = position_of(s.y, f.row, r.row);
+    (f.plane + r.channel) * input_rows(s) + (z * s.y.input as usize + y)
+}
+
+// That row of the input from the first tap of the first of these outputs on.
+fn values_of(s: Shape, input: &[f32], f: Line, r: KernelRow, c: Columns) -> &[f32]
+    requires { ⌜ Grouped s × (length (now input) ≡ s .inputs) ⌝ }
+    requires { ⌜ LineOf s f × (RowInside s f r × FirstInside s c) ⌝ }
+    ensures { λ v. ⌜ now v ≡ valuesOf s (now (input .entry)) f r c ⌝ }
+{
+    let width = s.x.input as usize;
+    let start = row_number(s, f, r) * width;
+    let from = start + position_of(s.x, c.output, c.first as u32);
+    let to = start + width;
+    &input[from..to]
+}
+
+// The weights of these taps.
+fn weights_of(s: Shape, kernel: &[f32], f: Line, r: KernelRow, c: Columns) -> &[f32]
+    requires { ⌜ Grouped s × (length (now kernel) ≡ s .weights) ⌝ }
+    requires { ⌜ LineOf s f × (RowInside s f r × FirstInside s c) ⌝ }
+    ensures { λ v. ⌜ now v ≡ weightsOf s (now (kernel .entry)) f r c ⌝ }
+{
+    let depth = r.channel * s.z.kernel as usize + r.depth as usize;
+    let row = depth * s.y.kernel as usize + r.row as usize;
+    let from = f.weight + (row * s.x.kernel as usize + c.first);
+    let to = from + c.count;
+    &kernel[from..to]
+}
+
+// The taps `c.first`, .. of a kernel row, `c.count` of them, more for each of these outputs, where all of them lie inside the input.
+fn add_block(
+    s: Shape,
+    input: &[f32],
+    kernel: &[f32],
+    f: Line,
+    r: KernelRow,
+    c: Columns,
+    out: &mut [f32],
+)
+    requires { ⌜ Fitting s (now input) (now kernel) ⌝ }
+    requires { ⌜ LineOf s f × (RowInside s f r × BlockInside s c (length (now out))) ⌝ }
+    ensures { λ _. ⌜ Summed (λ x t. rowTaps s (now (input .entry)) (now (kernel .entry)) f r (c .output) x (c .first + t)) (c .count) (length (now (out .entry))) (now (out .entry)) (now (out .exit)) ⌝ }
+{
+    let values = values_of(s, input, f, r, c);
+    let weights = weights_of(s, kernel, f, r, c);
+    add_taps(
+        out,
+        values,
+        weights,
+        s.x.stride as usize,
+        s.x.dilation as usize,
+    );
+}
+
+// Tap k of a kernel row more for each output of a row that it reaches.
+fn add_tap(s: Shape, input: &[f32], kernel: &[f32], f: Line, r: KernelRow, k: u32, out: &mut [f32])
+    requires { ⌜ Fitting s (now input) (now kernel) ⌝ }
+    requires { ⌜ LineOf s f × (RowInside s f r × ((k < s .x .kernel) × (length (now out) ≡ s .x .out))) ⌝ }
+    ensures { λ _. ⌜ Summed (λ x t. rowTaps s (now (input .entry)) (now (kernel .entry)) f r 0 x (k + t)) 1 (length (now (out .entry))) (now (out .entry)) (now (out .exit)) ⌝ }
+{
+    let outputs = outputs_inside(s.x, k);
+    let first = outputs.first;
+    let count = outputs.count;
+    if count == 0 {
+        return;
     }
-    KernelRow {
-        channel: at.channel + 1,
-        row: 0,
-        number,
+    let end = first + count;
+    let c = Columns {
+        output: first as u32,
+        alike: false,
+        first: k as usize,
+        count: 1,
+    };
+    add_block(s, input, kernel, f, r, c, &mut out[first..end]);
+}
+
+// The taps of a kernel row more for each output of a row: tap by tap.
+fn add_by_taps(s: Shape, input: &[f32], kernel: &[f32], f: Line, r: KernelRow, out: &mut [f32])
+    requires { ⌜ Fitting s (now input) (now kernel) ⌝ }
+    requires { ⌜ LineOf s f × (RowInside s f r × (length (now out) ≡ s .x .out)) ⌝ }
+    ensures { λ _. ⌜ Summed (rowTaps s (now (input .entry)) (now (kernel .entry)) f r 0) (s .x .kernel) (length (now (out .entry))) (now (out .entry)) (now (out .exit)) ⌝ }
+{
+    let kernel_x = s.x.kernel;
+    let mut k: u32 = 0;
+    while k < kernel_x {
+        add_tap(s, input, kernel, f, r, k, out);
+        k += 1;
     }
 }
 
-// ---- one output after another
-
-// The sum so far, and then the taps of a kernel row, of which the first lies at column q.
+// The taps of a kernel row more for each of these outputs: those that are alike side by side, a whole row tap by tap.
 fn add_row(
     s: Shape,
     input: &[f32],
     kernel: &[f32],
-    f: FirstTap,
-    at: KernelRow,
-    q: usize,
-    sum: f32,
-) -> f32
-    requires { ⌜ Fitting s (now input) (now kernel) ⌝ }
-    requires { ⌜ Within s f × ((at .channel < s .i) × (at .row < kernelRows s)) ⌝ }
-    requires { ⌜ (at .number ≡ at .channel * kernelRows s + at .row) × (q ≤ lastFirstTap) ⌝ }
-    ensures { λ v. ⌜ v ≡ sumFrom sum (λ x. tapAt (now (input .entry)) (now (kernel .entry)) (placeFrom s f q ((at .channel * kernelRows s + at .row) * s .x .kernel + x))) (s .x .kernel) ⌝ }
-{
-    let row = values_of(s, input, f, at);
-    let weights = weights_of(s, kernel, f, at);
-    let dilation = s.x.dilation as usize;
-    let begin = s.x.begin as usize;
-    kernel_row_sum(sum, row, weights, q, dilation, begin)
-}
-
-// The sum so far, and then all taps of the output whose first tap lies at column q: kernel row by kernel row.
-fn add_rows(s: Shape, input: &[f32], kernel: &[f32], f: FirstTap, q: usize, start: f32) -> f32
-    requires { ⌜ Fitting s (now input) (now kernel) ⌝ }
-    requires { ⌜ Within s f × (q ≤ lastFirstTap) ⌝ }
-    ensures { λ v. ⌜ v ≡ sumFrom start (λ t. tapAt (now (input .entry)) (now (kernel .entry)) (placeFrom s f q t)) (s .taps) ⌝ }
-{
-    let rows = kernel_rows(s);
-    let total = s.i * rows;
-    let mut sum = start;
-    let mut at = KernelRow {
-        channel: 0,
-        row: 0,
-        number: 0,
-    };
-    while at.number < total {
-        sum = add_row(s, input, kernel, f, at, q, sum);
-        let next = next_row(at, rows);
-        at = next;
-    }
-    sum
-}
-
-// All taps of each output of the row with these first taps, one output after another.
-fn add_line_each(s: Shape, input: &[f32], kernel: &[f32], f: FirstTap, out: &mut [f32])
-    requires { ⌜ Fitting s (now input) (now kernel) ⌝ }
-    requires { ⌜ Within s f × (length (now out) ≡ s .x .out) ⌝ }
-    ensures { λ _. ⌜ Summed (lineTaps s (now (input .entry)) (now (kernel .entry)) f) (s .taps) (length (now (out .entry))) (now (out .entry)) (now (out .exit)) ⌝ }
-{
-    let stride = s.x.stride as usize;
-    let mut x = 0;
-    while x < out.len() {
-        out[x] = add_rows(s, input, kernel, f, x * stride, out[x]);
-        x += 1;
-    }
-}
-
-// ---- a row of outputs, side by side
-
-// The taps of a kernel row more for each of some outputs of the row with these first taps. That of the first of them lies at column q.
-fn add_row_across(
-    s: Shape,
-    input: &[f32],
-    kernel: &[f32],
-    f: FirstTap,
-    at: KernelRow,
-    q: usize,
+    f: Line,
+    r: KernelRow,
+    c: Columns,
     out: &mut [f32],
 )
     requires { ⌜ Fitting s (now input) (now kernel) ⌝ }
-    requires { ⌜ Within s f × ((at .channel < s .i) × (at .row < kernelRows s)) ⌝ }
-    requires { ⌜ (at .number ≡ at .channel * kernelRows s + at .row) × ((q ≤ 1040) × (length (now out) ≤ s .x .out)) ⌝ }
-    ensures { λ _. ⌜ Summed (λ x t. tapAt (now (input .entry)) (now (kernel .entry)) (placeFrom s f (q + x * s .x .stride) ((at .channel * kernelRows s + at .row) * s .x .kernel + t))) (s .x .kernel) (length (now (out .entry))) (now (out .entry)) (now (out .exit)) ⌝ }
+    requires { ⌜ LineOf s f × (RowInside s f r × ColumnsInside s c (length (now out))) ⌝ }
+    ensures { λ _. ⌜ Summed (rowTaps s (now (input .entry)) (now (kernel .entry)) f r (c .output)) (s .x .kernel) (length (now (out .entry))) (now (out .entry)) (now (out .exit)) ⌝ }
 {
-    let row = values_of(s, input, f, at);
-    let weights = weights_of(s, kernel, f, at);
-    let begin = s.x.begin as usize;
-    let stride = s.x.stride as usize;
-    let dilation = s.x.dilation as usize;
-    add_across(out, row, weights, begin, stride, dilation, q);
-}
-
-// All taps of these outputs: kernel row by kernel row.
-fn add_rows_across(s: Shape, input: &[f32], kernel: &[f32], f: FirstTap, q: usize, out: &mut [f32])
-    requires { ⌜ Fitting s (now input) (now kernel) ⌝ }
-    requires { ⌜ Within s f ⌝ }
-    requires { ⌜ (q ≤ 1040) × (length (now out) ≤ s .x .out) ⌝ }
-    ensures { λ _. ⌜ Summed (λ x t. tapAt (now (input .entry)) (now (kernel .entry)) (placeFrom s f (q + x * s .x .stride) t)) (s .taps) (length (now (out .entry))) (now (out .entry)) (now (out .exit)) ⌝ }
-{
-    let rows = kernel_rows(s);
-    let count = s.i * rows;
-    let mut at = KernelRow {
-        channel: 0,
-        row: 0,
-        number: 0,
-    };
-    while at.number < count {
-        add_row_across(s, input, kernel, f, at, q, out);
-        let next = next_row(at, rows);
-        at = next;
-    }
-}
-
-// All taps of each output of the row with these first taps, side by side. The outputs before lo and from hi on have every tap outside the input's columns.
-fn add_line_across(s: Shape, input: &[f32], kernel: &[f32], f: FirstTap, out: &mut [f32])
-    requires { ⌜ Fitting s (now input) (now kernel) ⌝ }
-    requires { ⌜ Within s f × (length (now out) ≡ s .x .out) ⌝ }
-    ensures { λ _. ⌜ Summed (lineTaps s (now (input .entry)) (now (kernel .entry)) f) (s .taps) (length (now (out .entry))) (now (out .entry)) (now (out .exit)) ⌝ }
-{
-    let n = out.len();
-    let stride = s.x.stride as usize;
-    let begin = s.x.begin as usize;
-    let last = (s.x.kernel as usize - 1) * s.x.dilation as usize;
-    let lo = columns_before(last, stride, begin, n);
-    let hi = columns_before(0, stride, begin + s.x.input as usize, n);
-    let from = f.weight;
-    let to = from + s.taps;
-    let weights = &kernel[from..to];
-    add_outside(&mut out[0..lo], weights);
-    add_rows_across(s, input, kernel, f, lo * stride, &mut out[lo..hi]);
-    add_outside(&mut out[hi..n], weights);
-}
-
-// ---- every row
-
-// All taps of each output of the row with these first taps. In a row of one or two outputs side by side is not worth its work.
-fn add_line(s: Shape, input: &[f32], kernel: &[f32], f: FirstTap, out: &mut [f32])
-    requires { ⌜ Fitting s (now input) (now kernel) ⌝ }
-    requires { ⌜ Within s f × (length (now out) ≡ s .x .out) ⌝ }
-    ensures { λ _. ⌜ Summed (lineTaps s (now (input .entry)) (now (kernel .entry)) f) (s .taps) (length (now (out .entry))) (now (out .entry)) (now (out .exit)) ⌝ }
-{
-    if out.len() < 3 {
-        add_line_each(s, input, kernel, f, out);
+    if c.alike {
+        add_block(s, input, kernel, f, r, c, out);
         return;
     }
-    add_line_across(s, input, kernel, f, out);
+    add_by_taps(s, input, kernel, f, r, out);
+}
+
+// ---- all kernel rows inside the input
+
+// The taps of a kernel depth more for each of these outputs: row by row.
+fn add_rows(
+    s: Shape,
+    input: &[f32],
+    kernel: &[f32],
+    f: Line,
+    channel: usize,
+    depth: u32,
+    c: Columns,
+    out: &mut [f32],
+)
+    requires { ⌜ Fitting s (now input) (now kernel) ⌝ }
+    requires { ⌜ LineOf s f × (DepthInside s f channel depth × ColumnsInside s c (length (now out))) ⌝ }
+    ensures { λ _. ⌜ Summed (depthTaps s (now (input .entry)) (now (kernel .entry)) f channel depth (c .output)) (planeTaps s) (length (now (out .entry))) (now (out .entry)) (now (out .exit)) ⌝ }
+{
+    let rows = f.rows;
+    let first = rows.first;
+    let count = rows.count;
+    let mut k = 0;
+    while k < count {
+        let r = KernelRow {
+            channel,
+            depth,
+            row: (first + k) as u32,
+        };
+        add_row(s, input, kernel, f, r, c, out);
+        k += 1;
+    }
+}
+
+// The taps of a channel more for each of these outputs: depth by depth.
+fn add_depths(
+    s: Shape,
+    input: &[f32],
+    kernel: &[f32],
+    f: Line,
+    channel: usize,
+    c: Columns,
+    out: &mut [f32],
+)
+    requires { ⌜ Fitting s (now input) (now kernel) ⌝ }
+    requires { ⌜ LineOf s f × ((channel < s .i) × ColumnsInside s c (length (now out))) ⌝ }
+    ensures { λ _. ⌜ Summed (channelTaps s (now (input .entry)) (now (kernel .entry)) f channel (c .output)) (kernelVolume s) (length (now (out .entry))) (now (out .entry)) (now (out .exit)) ⌝ }
+{
+    let depths = f.depths;
+    let first = depths.first;
+    let count = depths.count;
+    let mut k = 0;
+    while k < count {
+        add_rows(s, input, kernel, f, channel, (first + k) as u32, c, out);
+        k += 1;
+    }
+}
+
+// All taps of each of these outputs: channel by channel.
+fn add_channels(s: Shape, input: &[f32], kernel: &[f32], f: Line, c: Columns, out: &mut [f32])
+    requires { ⌜ Fitting s (now input) (now kernel) ⌝ }
+    requires { ⌜ LineOf s f × ColumnsInside s c (length (now out)) ⌝ }
+    ensures { λ _. ⌜ Summed (lineTaps s (now (input .entry)) (now (kernel .entry)) (f .number) (c .output)) (s .taps) (length (now (out .entry))) (now (out .entry)) (now (out .exit)) ⌝ }
+{
+    let mut channel = 0;
+    while channel < s.i {
+        add_depths(s, input, kernel, f, channel, c, out);
+        channel += 1;
+    }
+}
+
+// ---- every row of outputs
+
+// All taps of each of some outputs of a row, which have these taps along x inside the input: side by side.
+fn add_run(
+    s: Shape,
+    input: &[f32],
+    kernel: &[f32],
+    f: Line,
+    output: u32,
+    taps: Taps,
+    out: &mut [f32],
+)
+    requires { ⌜ Fitting s (now input) (now kernel) ⌝ }
+    requires { ⌜ LineOf s f × ((1 ≤ length (now out)) × ((output + length (now out) ≤ s .x .out) × Alike (s .x) output (output + length (now out)) (taps .first) (taps .count))) ⌝ }
+    ensures { λ _. ⌜ Summed (lineTaps s (now (input .entry)) (now (kernel .entry)) (f .number) output) (s .taps) (length (now (out .entry))) (now (out .entry)) (now (out .exit)) ⌝ }
+{
+    let first = taps.first;
+    let count = taps.count;
+    if count == 0 {
+        return;
+    }
+    let c = Columns {
+        output,
+        alike: true,
+        first,
+        count,
+    };
+    add_channels(s, input, kernel, f, c, out);
+}
+
+// All taps of each output of a row: neighbours that have the same taps along x inside the input at a time.
+fn add_runs(s: Shape, input: &[f32], kernel: &[f32], f: Line, out: &mut [f32])
+    requires { ⌜ Fitting s (now input) (now kernel) ⌝ }
+    requires { ⌜ LineOf s f × (length (now out) ≡ s .x .out) ⌝ }
+    ensures { λ _. ⌜ Summed (lineTaps s (now (input .entry)) (now (kernel .entry)) (f .number) 0) (s .taps) (length (now (out .entry))) (now (out .entry)) (now (out .exit)) ⌝ }
+{
+    let n = out.len();
+    let mut p = 0;
+    while p < n {
+        let run = run_from(s.x, p as u32);
+        let taps = run.taps;
+        let end = least(run.end, n);
+        add_run(s, input, kernel, f, p as u32, taps, &mut out[p..end]);
+        p = end;
+    }
+}
+
+// The taps along x of a kernel row from which on a row of outputs is taken tap by tap, if it has as many outputs.
+const WIDE: usize = 9;
+
+// All taps of each output of a row: by the taps of its outputs or, under a wide kernel, by the outputs of its taps. Both are the same pairs of output and tap.
+fn add_outputs(s: Shape, input: &[f32], kernel: &[f32], f: Line, out: &mut [f32])
+    requires { ⌜ Fitting s (now input) (now kernel) ⌝ }
+    requires { ⌜ LineOf s f × (length (now out) ≡ s .x .out) ⌝ }
+    ensures { λ _. ⌜ Summed (lineTaps s (now (input .entry)) (now (kernel .entry)) (f .number) 0) (s .taps) (length (now (out .entry))) (now (out .entry)) (now (out .exit)) ⌝ }
+{
+    if (WIDE <= s.x.kernel as usize) & (WIDE <= out.len()) {
+        let c = Columns {
+            output: 0,
+            alike: false,
+            first: 0,
+            count: 0,
+        };
+        add_channels(s, input, kernel, f, c, out);
+        return;
+    }
+    add_runs(s, input, kernel, f, out);
+}
+
+// The same. No tap lies inside the input where none does along z or along y.
+fn add_line(s: Shape, input: &[f32], kernel: &[f32], f: Line, out: &mut [f32])
+    requires { ⌜ Fitting s (now input) (now kernel) ⌝ }
+    requires { ⌜ LineOf s f × (length (now out) ≡ s .x .out) ⌝ }
+    ensures { λ _. ⌜ Summed (lineTaps s (now (input .entry)) (now (kernel .entry)) (f .number) 0) (s .taps) (length (now (out .entry))) (now (out .entry)) (now (out .exit)) ⌝ }
+{
+    let depths = f.depths;
+    let rows = f.rows;
+    if depths.count == 0 {
+        return;
+    }
+    if rows.count == 0 {
+        return;
+    }
+    add_outputs(s, input, kernel, f, out);
 }
 
 // The outputs of one row, of number `line` among all rows.
@@ -272,7 +363,7 @@ fn fill_line(s: Shape, input: &[f32], kernel: &[f32], line: usize, out: &mut [f3
     ensures { λ _. ⌜ now (out .exit) ≡ tabulate (λ x. outputOf (placeOf s) (s .taps) (now (input .entry)) (now (kernel .entry)) (line * s .x .out + x)) (s .x .out) ⌝ }
 {
     start(out, kernel[0]);
-    let f = first_tap(s, line);
+    let f = line_of(s, line);
     add_line(s, input, kernel, f, out);
 }
 

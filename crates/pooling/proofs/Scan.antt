@@ -9,10 +9,10 @@ use lib.ListN.{take, drop}
 use lib.Ieee.{Float}
 use Rattle.layer.proofs.Places.{place-div, place-mod}
 use Rattle.sizes.specs.declared.Span.{Span}
-use Rattle.sizes.specs.declared.Tap.{Tap}
-use Rattle.sizes.specs.declared.Tap.the-variants.{Outside, At}
-use Rattle.sizes.specs.Joins.{forward, both, Below}
-use Rattle.sizes.proofs.Joins.{forward-below, below-at}
+use Rattle.taps.specs.declared.Tap.{Tap}
+use Rattle.taps.specs.declared.Tap.the-variants.{Outside, At}
+use Rattle.taps.specs.Joins.{forward, both, Below}
+use Rattle.taps.proofs.Joins.{forward-below, below-at}
 use Rattle.shape.specs.declared.Shape.{Shape}
 use Rattle.shape.specs.Facts.{Sound}
 use Rattle.shape.specs.Volumes.{inputRows, kernelRows, outRows, outVolume, inputVolume, onRows, onPlane}

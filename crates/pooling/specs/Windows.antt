@@ -3,9 +3,9 @@
 use Prim.Native.Nat.{ℕ, zero, suc, _+_, _*_, _/_, _%_}
 use mathlib.Core.List.{List, [], _∷_, _++_}
 use lib.Ieee.{Float}
-use Rattle.sizes.specs.declared.Tap.{Tap}
-use Rattle.sizes.specs.declared.Tap.the-variants.{Outside, At}
-use Rattle.sizes.specs.Joins.{forward}
+use Rattle.taps.specs.declared.Tap.{Tap}
+use Rattle.taps.specs.declared.Tap.the-variants.{Outside, At}
+use Rattle.taps.specs.Joins.{forward}
 use Rattle.shape.specs.declared.Shape.{Shape}
 use Rattle.shape.specs.Volumes.{inputVolume, kernelVolume, outVolume, onPlane}
 use Rattle.tensor.specs.declared.Window.{Window}

@@ -7,9 +7,9 @@ use native.Mathlib.Nat.{add-mul, mul-assoc, add-assoc}
 use borrow.Author.Tests.{eqb-true, eq-eqb}
 use lib.Ieee.{Float}
 use Rattle.sizes.specs.declared.Span.{Span}
-use Rattle.sizes.specs.declared.Tap.the-variants.{At}
-use Rattle.sizes.specs.Joins.{joins, forward}
-use Rattle.sizes.proofs.Joins.{forward-finds, finds-at, at-finds}
+use Rattle.taps.specs.declared.Tap.the-variants.{At}
+use Rattle.taps.specs.Joins.{joins, forward}
+use Rattle.taps.proofs.Joins.{forward-finds, finds-at, at-finds}
 use Rattle.shape.specs.declared.Shape.{Shape}
 use Rattle.shape.specs.Facts.{Grouped}
 use Rattle.shape.specs.Volumes.{kernelRows}

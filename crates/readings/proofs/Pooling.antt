@@ -14,11 +14,11 @@ use borrow.Author.Tests.{not-false}
 use Rattle.layer.specs.declared.Op.the-variants.{MaxPool}
 use Rattle.layer.specs.declared.Layer.{Layer}
 use Rattle.layer.proofs.Places.{place-within}
-use Rattle.sizes.specs.declared.Tap.{Tap}
-use Rattle.sizes.specs.declared.Tap.the-variants.{Outside, At}
-use Rattle.sizes.specs.Taps.{anyBelow}
-use Rattle.sizes.specs.Joins.{forward, isAt, Below}
-use Rattle.sizes.proofs.Joins.{forward-below, below-at}
+use Rattle.taps.specs.declared.Tap.{Tap}
+use Rattle.taps.specs.declared.Tap.the-variants.{Outside, At}
+use Rattle.taps.specs.Taps.{anyBelow}
+use Rattle.taps.specs.Joins.{forward, isAt, Below}
+use Rattle.taps.proofs.Joins.{forward-below, below-at}
 use Rattle.shape.specs.declared.Shape.{Shape}
 use Rattle.shape.specs.Counts.{shapeOf}
 use Rattle.shape.specs.Facts.{Sound, Pooled}

@@ -9,9 +9,9 @@ use native.Mathlib.Omega.{arith}
 use lib.Ieee.{Float}
 use Rattle.layer.proofs.Places.{place-within, place-div, place-mod}
 use Rattle.sizes.specs.declared.Span.{Span}
-use Rattle.sizes.specs.declared.Tap.{Tap}
-use Rattle.sizes.specs.declared.Tap.the-variants.{Outside, At}
-use Rattle.sizes.specs.Joins.{both}
+use Rattle.taps.specs.declared.Tap.{Tap}
+use Rattle.taps.specs.declared.Tap.the-variants.{Outside, At}
+use Rattle.taps.specs.Joins.{both}
 use Rattle.shape.specs.declared.Shape.{Shape}
 use Rattle.shape.specs.Facts.{Grouped}
 use Rattle.shape.specs.Volumes.{inputRows, kernelRows, outRows, onPlane, inputPlane, inputVolume, kernelVolume, outVolume}

@@ -3,9 +3,9 @@
 use Prim.Native.Nat.{ℕ, _/_, _%_, _≤_}
 use mathlib.Core.Bool.{Bool, _&&_}
 use Rattle.sizes.specs.declared.Span.{Span}
-use Rattle.sizes.specs.declared.Tap.{Tap}
-use Rattle.sizes.specs.Joins.{joins, forward, backward, Finds}
-use Rattle.sizes.proofs.Joins.{forward-finds, backward-finds, both-finds}
+use Rattle.taps.specs.declared.Tap.{Tap}
+use Rattle.taps.specs.Joins.{joins, forward, backward, Finds}
+use Rattle.taps.proofs.Joins.{forward-finds, backward-finds, both-finds}
 use Rattle.shape.specs.declared.Shape.{Shape}
 use Rattle.shape.specs.Facts.{Sound}
 use Rattle.shape.specs.Volumes.{inputRows, inputVolume, onRows, onPlane}

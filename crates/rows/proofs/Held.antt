@@ -1,24 +1,18 @@
 -- Laws of the sums that have all their taps among the values.
 use mathlib.Core.Path.{_≡_, sym, ap, _∙_}
 use mathlib.Core.List.{List, _++_}
-use Prim.Native.Nat.{ℕ, zero, suc, _+_, _-_, _*_, _≤_, _<_}
-use native.Mathlib.Nat.{div-zero, zero-lt-suc, mul-le-mul-right, add-mul, sub-zero, zero-add}
+use Prim.Native.Nat.{ℕ, _+_, _-_, _*_, _≤_, _<_}
+use native.Mathlib.Nat.{mul-le-mul-right, add-mul, sub-zero, zero-add}
 use native.Mathlib.Omega.{arith}
 use lib.ListN.{length, take, drop, length-drop}
 use lib.Seq.{getD-drop, take-all, length-take-le}
 use lib.Ieee.{Float, nan}
 use Rattle.sizes.specs.Size.{ceilDiv}
-use Rattle.sizes.proofs.Division.{lt-ceil}
+use Rattle.sizes.proofs.Division.{lt-ceil, stride-some}
 use Rattle.tensor.specs.Table.{read}
 use Rattle.sums.specs.Taps.{pair}
 use Rattle.rows.specs.Rows.{Summed, across, held}
 use Rattle.rows.proofs.Rows.{summed-none, summed-part, summed-same}
-
--- a stride of 0 makes no step
-pub stride-some : {x : ℕ} (a stride : ℕ) → x < ceilDiv a stride → 1 ≤ stride
-unfolding ceilDiv
-stride-some a zero h = absurd (omega (arith, div-zero (a + (0 - 1))))
-stride-some a (suc stride) h = zero-lt-suc stride
 
 -- each tap of such a sum lies among the values: tap k + j among those from the place of tap k on
 pub held-place : {n : ℕ} (values taps stride dilation k j : ℕ) {x : ℕ} → n ≤ held n values taps stride dilation → x < n → k + j < taps
@@ -28,6 +22,12 @@ held-place values taps stride dilation k j {x} h l m =
     let p = lt-ceil (values - (taps - 1) * dilation) x (stride-some (values - (taps - 1) * dilation) stride c) .0 c in
     let q : (k + j) * dilation ≤ (taps - 1) * dilation = mul-le-mul-right dilation (omega arith) in
     omega (arith, add-mul k j dilation)
+
+-- the place of its first tap, where it may have none
+pub held-start : {n : ℕ} (values taps stride dilation : ℕ) {x : ℕ} → n ≤ held n values taps stride dilation → x < n → x * stride < values
+held-start values taps stride dilation {x} h l =
+    let c : x < ceilDiv (values - (taps - 1) * dilation) stride = omega arith in
+    omega (arith, lt-ceil (values - (taps - 1) * dilation) x (stride-some (values - (taps - 1) * dilation) stride c) .0 c)
 
 -- a slice from place a on
 pub from-on : (l : List Float) (a : ℕ) → take (length l - a) (drop a l) ≡ drop a l

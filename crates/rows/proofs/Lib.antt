@@ -2,3 +2,4 @@
 pub mod Rows
 pub mod Spread
 pub mod Held
+pub mod Ranges

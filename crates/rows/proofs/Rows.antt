@@ -101,12 +101,12 @@ module _ (taps : ℕ → ℕ → Factors) (k : ℕ) where
           rw z (at-ys (w + (x - a - w)) ∙ at-rest (x - a - w) ∙ i .rest (a + (w + (x - a - w))) (omega arith))
 
   -- sums whose taps take no part
-  pub summed-skip : {a b : ℕ} {before l : List Float} → a ≤ b → Summed taps k a before l → ((x t : ℕ) → a ≤ x → x < b → taps x t ≡ none) → Summed taps k b before l
+  pub summed-skip : {a b : ℕ} {before l : List Float} → a ≤ b → Summed taps k a before l → ((x t : ℕ) → a ≤ x → x < b → t < k → taps x t ≡ none) → Summed taps k b before l
   summed-skip {a} {b} {before} {l} o i h = record { kept = i .kept; done = λ x p. go x p (decLt x a); rest = λ x p. i .rest x (omega arith) }
     where
       go : (x : ℕ) → x < b → Dec (x < a) → read l x ≡ sumFrom (read before x) (taps x) k
       go x p (yes m) = i .done x m
-      go x p (no m) = i .rest x (omega arith) ∙ sym (sum-none (read before x) (taps x) k (λ t q. h x t (omega arith) p))
+      go x p (no m) = i .rest x (omega arith) ∙ sym (sum-none (read before x) (taps x) k (λ t q. h x t (omega arith) p q))
 
   -- no more sums than there are
   pub summed-whole : {n : ℕ} {before l : List Float} → Summed taps k n before l → length before ≤ n → Summed taps k (length before) before l

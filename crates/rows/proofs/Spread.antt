@@ -13,13 +13,12 @@ use lib.ListN.{length, take, set}
 use lib.Seq.{length-take-le, getD-take}
 use lib.Ieee.{Float, nan}
 use Rattle.sizes.specs.Size.{ceilDiv}
-use Rattle.sizes.proofs.Division.{lt-ceil}
+use Rattle.sizes.proofs.Division.{lt-ceil, stride-some}
 use Rattle.tensor.specs.Table.{read}
 use Rattle.layer.proofs.Places.{place-mod}
 use Rattle.sums.specs.Taps.{none, pair, addTap}
 use Rattle.rows.specs.Rows.{Summed, spread}
 use Rattle.rows.proofs.Rows.{sum-one, summed-none, summed-next, summed-skip, summed-whole, summed-same}
-use Rattle.rows.proofs.Held.{stride-some}
 
 module _ (values : List Float) (weight : Float) (stride : ℕ) (s : 1 ≤ stride) where
   -- the sum m strides on takes value m
@@ -47,18 +46,18 @@ module _ (values : List Float) (weight : Float) (stride : ℕ) (s : 1 ≤ stride
       → v ≡ addTap (read l (m * stride)) (pair (read values m) weight) → Summed (spread values weight stride) 1 ((m + 1) * stride) before (set l (m * stride) v)
   spread-next {m} {before} {l} {v} i h k e =
       rw (add-one m, suc-mul m stride)
-      (summed-skip _ 1 (omega arith) (summed-next _ 1 i k (e ∙ ap (addTap (read l (m * stride))) (sym (at m h)) ∙ sum-one (read l (m * stride)) _)) (λ x t p q. between m x t (omega arith) q))
+      (summed-skip _ 1 (omega arith) (summed-next _ 1 i k (e ∙ ap (addTap (read l (m * stride))) (sym (at m h)) ∙ sum-one (read l (m * stride)) _)) (λ x t p q r. between m x t (omega arith) q))
 
   pub spread-all : {before after : List Float} → Summed (spread values weight stride) 1 (length values * stride) before after → Summed (spread values weight stride) 1 (length before) before after
   spread-all {before} {after} i = go (decLe (length before) (length values * stride))
     where
       go : Dec (length before ≤ length values * stride) → Summed (spread values weight stride) 1 (length before) before after
       go (yes h) = summed-whole _ 1 i h
-      go (no h) = summed-skip _ 1 (omega arith) i (λ x t p q. past x t p)
+      go (no h) = summed-skip _ 1 (omega arith) i (λ x t p q r. past x t p)
 
 -- a stride of 0 reaches no sum
 pub spread-no : (values : List Float) (weight : Float) (l : List Float) → Summed (spread values weight 0) 1 (length l) l l
-spread-no values weight l = summed-skip _ 1 (omega arith) (summed-none _ 1 l) (λ x t p q. refl)
+spread-no values weight l = summed-skip _ 1 (omega arith) (summed-none _ 1 l) (λ x t p q r. refl)
 
 -- ---- the first n values, which are those that find a sum
 module _ (values : List Float) where

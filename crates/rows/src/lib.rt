@@ -1,5 +1,6 @@
 // Running sums that stand side by side in a lent slice: more taps for each of them, each sum keeping its own order. Every public function takes any slices
 // and runs over as many as they hold.
+use sizes::ceil_div;
 use sizes::least;
 use sizes::minus;
 use sums::add_product;
@@ -7,30 +8,11 @@ ghost use mathlib.Core.Path.{_≡_};
 ghost use Prim.Native.Nat.{ℕ, _+_, _-_, _*_, _≤_, _<_, min};
 ghost use lib.ListN.{length};
 ghost use Rattle.sizes.specs.Size.{ceilDiv};
-ghost use Rattle.tensor.specs.Table.{plusZero, tabulate};
-ghost use Rattle.sums.specs.Taps.{pair, addTap};
+ghost use Rattle.tensor.specs.Table.{read, plusZero, tabulate};
+ghost use Rattle.sums.specs.Taps.{pair, addTap, sumFrom};
 ghost use Rattle.rows.specs.Rows.{Summed, across, held, spread};
 
 // ---- how many
-
-// How many of the places 0, stride, 2 * stride, .. lie below `distance`; none for a stride of 0.
-pub fn steps(distance: usize, stride: usize) -> usize
-    ensures { λ r. ⌜ r ≡ ceilDiv distance stride ⌝ }
-{
-    if stride == 1 {
-        return distance;
-    }
-    if stride == 0 {
-        return 0;
-    }
-    if distance == 0 {
-        return 0;
-    }
-    if distance <= stride {
-        return 1;
-    }
-    (distance - 1) / stride + 1
-}
 
 // The distance from the first of some taps to the last, or `most` where it is more.
 fn reach(taps: usize, dilation: usize, most: usize) -> usize
@@ -54,7 +36,7 @@ fn sums_held(sums: usize, values: usize, taps: usize, stride: usize, dilation: u
     ensures { λ r. ⌜ r ≡ held sums values taps stride dilation ⌝ }
 {
     let last = reach(taps, dilation, values);
-    least(sums, steps(values - last, stride))
+    least(sums, ceil_div(values - last, stride))
 }
 
 // ---- convolution: a row of values under a kernel row
@@ -119,12 +101,39 @@ fn add_some(
     1
 }
 
-// All taps of each sum.
+// All taps of one sum, whose first has the value at `from`.
+fn tap_sum(sum: f32, values: &[f32], weights: &[f32], from: usize, dilation: usize) -> f32
+    requires { ⌜ ((k : ℕ) → k < length (now weights) → from + k * dilation < length (now values)) ⌝ }
+    ensures { λ r. ⌜ r ≡ sumFrom sum (λ k. pair (read (now (values .entry)) (from + k * dilation)) (read (now (weights .entry)) k)) (length (now (weights .entry))) ⌝ }
+{
+    let mut total = sum;
+    let mut k = 0;
+    while k < weights.len() {
+        total = add_product(total, values[from + k * dilation], weights[k]);
+        k += 1;
+    }
+    total
+}
+
+// All taps of each sum, one sum after another.
+fn add_each(sums: &mut [f32], values: &[f32], weights: &[f32], stride: usize, dilation: usize)
+    requires { ⌜ length (now sums) ≤ held (length (now sums)) (length (now values)) (length (now weights)) stride dilation ⌝ }
+    ensures { λ _. ⌜ Summed (across (now (values .entry)) (now (weights .entry)) stride dilation) (length (now (weights .entry))) (length (now (sums .entry))) (now (sums .entry)) (now (sums .exit)) ⌝ }
+{
+    let mut x = 0;
+    while x < sums.len() {
+        sums[x] = tap_sum(sums[x], values, weights, x * stride, dilation);
+        x += 1;
+    }
+}
+
+// All taps of each sum. A few sums are taken one after another.
 fn add_all(sums: &mut [f32], values: &[f32], weights: &[f32], stride: usize, dilation: usize)
     requires { ⌜ length (now sums) ≤ held (length (now sums)) (length (now values)) (length (now weights)) stride dilation ⌝ }
     ensures { λ _. ⌜ Summed (across (now (values .entry)) (now (weights .entry)) stride dilation) (length (now (weights .entry))) (length (now (sums .entry))) (now (sums .entry)) (now (sums .exit)) ⌝ }
 {
-    if sums.len() == 0 {
+    if sums.len() < 5 {
+        add_each(sums, values, weights, stride, dilation);
         return;
     }
     let mut k = 0;
@@ -144,17 +153,6 @@ pub fn add_taps(sums: &mut [f32], values: &[f32], weights: &[f32], stride: usize
         return;
     }
     add_all(&mut sums[0..n], values, weights, stride, dilation);
-}
-
-// One tap outside the input more for each sum.
-pub fn add_zeros(sums: &mut [f32], weight: f32)
-    ensures { λ _. ⌜ Summed (λ x k. pair plusZero weight) 1 (length (now (sums .entry))) (now (sums .entry)) (now (sums .exit)) ⌝ }
-{
-    let mut x = 0;
-    while x < sums.len() {
-        sums[x] = add_product(sums[x], 0.0, weight);
-        x += 1;
-    }
 }
 
 // ---- the start of a row
@@ -194,7 +192,7 @@ pub fn add_spread(sums: &mut [f32], values: &[f32], stride: usize, weight: f32)
     if stride == 0 {
         return;
     }
-    let n = least(values.len(), steps(sums.len(), stride));
+    let n = least(values.len(), ceil_div(sums.len(), stride));
     if stride == 1 {
         add_values(sums, &values[0..n], 1, weight);
         return;

@@ -2,19 +2,19 @@
 use Prim.Native.Nat.{ℕ, _+_, _*_, _≤_, _<_}
 use native.Mathlib.Nat.{le-mul-of-pos-right, mul-comm, div-eq-of-lt, mod-eq-of-lt}
 use native.Mathlib.Omega.{arith}
-use mathlib.Core.Path.{_≡_, sym}
+use mathlib.Core.Path.{_≡_, refl, sym}
 use mathlib.Core.Bool.{true, _&&_}
 use lib.Dec.{ltb, eqb}
 use borrow.Author.Tests.{ltb-true, eqb-true}
 use Rattle.layer.proofs.Tests.{and-both}
 use Rattle.layer.proofs.Places.{place-div, place-mod}
 use Rattle.sizes.specs.declared.Span.{Span}
-use Rattle.sizes.specs.declared.Direction.{Direction}
-use Rattle.sizes.specs.declared.Tap.{Tap}
-use Rattle.sizes.specs.Joins.{tapOn, both, Below}
-use Rattle.sizes.proofs.Joins.{first-tap, both-first, both-below}
+use Rattle.taps.specs.declared.Direction.{Direction}
+use Rattle.taps.specs.declared.Tap.{Tap}
+use Rattle.taps.specs.Joins.{tapOn, both, Below}
+use Rattle.taps.proofs.Joins.{first-tap, both-first, both-below}
 use Rattle.shape.specs.declared.Shape.{Shape}
-use Rattle.shape.specs.Volumes.{inputRows, outRows, inputVolume, onRows, onPlane}
+use Rattle.shape.specs.Volumes.{inputRows, kernelRows, outRows, inputVolume, onRows, onPlane}
 use Rattle.shape.specs.Facts.{Sound}
 
 module _ (f : Span → ℕ → ℕ → Tap) (s : Shape) where
@@ -52,6 +52,19 @@ first-depth d s p k e =
     let hk = ltb-true k (s .y .kernel) (c .1) in
     let t = first-tap d (s .z) (eqb-true (s .z .begin) 0 (b .1)) (ltb-true 0 (s .z .input) (a .1)) in
     sym (rw (div-eq-of-lt hp, div-eq-of-lt hk, mod-eq-of-lt hp, mod-eq-of-lt hk, t) (both-first (s .y .input) (tapOn d (s .y) p k)))
+
+-- ---- rows by depths
+pub kernel-rows-are : (s : Shape) → kernelRows s ≡ s .z .kernel * s .y .kernel
+unfolding kernelRows
+kernel-rows-are s = refl
+
+pub out-rows-are : (s : Shape) → outRows s ≡ s .z .out * s .y .out
+unfolding outRows
+out-rows-are s = refl
+
+pub input-rows-are : (s : Shape) → inputRows s ≡ s .z .input * s .y .input
+unfolding inputRows
+input-rows-are s = refl
 
 -- ---- an output has as many channels as elements at most
 pub channels-max : (s : Shape) → Sound s → s .channels ≤ 16777216

@@ -2,8 +2,8 @@
 -- axes but the last are folded into rows, here and nowhere else, so that the operators know rows and columns alone.
 use Prim.Native.Nat.{ℕ, _+_, _*_, _/_, _%_}
 use Rattle.sizes.specs.declared.Span.{Span}
-use Rattle.sizes.specs.declared.Tap.{Tap}
-use Rattle.sizes.specs.Joins.{both}
+use Rattle.taps.specs.declared.Tap.{Tap}
+use Rattle.taps.specs.Joins.{both}
 use Rattle.shape.specs.declared.Shape.{Shape}
 
 -- ---- rows: what lies along the last axis, numbered "Row-major, last axis fastest." over the others

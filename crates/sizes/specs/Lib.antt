@@ -1,5 +1,3 @@
 pub mod Size
-pub mod Taps
-pub mod Joins
 pub mod Sizing
 pub mod Bounds

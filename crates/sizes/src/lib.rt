@@ -1,4 +1,4 @@
-// Sizes along one axis, where a tap of an axis lies, and which taps lie inside the input.
+// Sizes along one axis.
 use layer::AutoPad;
 use layer::Axis;
 use layer::Op;
@@ -15,8 +15,6 @@ ghost use Prim.Native.Nat.{_^_, _+_, _-_, _*_, _/_, _≤_, _<_, min};
 ghost use mathlib.Core.Path.{_≡_};
 ghost use mathlib.Core.Bool.{true};
 ghost use Rattle.sizes.specs.Size.{ceilDiv, dilatedKernel, padded, lessLast, explicitOut, sameOut, sameTotal, padsOf, windowOut, transposedOut, outOf, windowFits, axisFits, roundingOf};
-ghost use Rattle.sizes.specs.Taps.{tapInside, someMissed, Exactly, stepsTo};
-ghost use Rattle.sizes.specs.Joins.{positionIn, positionBy, forward, backward, tapOn};
 ghost use Rattle.sizes.specs.Sizing.{axisDimensionsOk, padsOk, axisAttributesOk, modeOk, spanOf, sizing};
 ghost use Rattle.sizes.specs.Bounds.{AxisLimits, SpanLimits};
 
@@ -37,29 +35,10 @@ pub enum Sizing {
     Unfit,
 }
 
-// Where a tap lies along an axis, or along several axes taken as one: outside the input, or at a position of it. A tap is document 01's term for one place of
-// the kernel.
-pub enum Tap {
-    Outside,
-    At(usize),
-}
-
-// The taps of one output position that lie inside the input: `count` of them, from `first` on.
-pub struct Taps {
-    pub first: usize,
-    pub count: usize,
-}
-
 // The padding on both sides of an axis.
 pub struct Pads {
     pub begin: usize,
     pub end: usize,
-}
-
-// Which way a tap is read: from an output position (convolution, pooling), or as transposed convolution does.
-pub enum Direction {
-    Forward,
-    Backward,
 }
 
 // ---- whole numbers
@@ -77,11 +56,23 @@ pub fn least(a: usize, b: usize) -> usize
     if a <= b { a } else { b }
 }
 
-fn ceil_div(a: usize, b: usize) -> usize
-    requires { ⌜ (1 ≤ b) × (a + b < 2 ^ 64) ⌝ }
+// ceil(a/b); 0 where b is 0. A divisor of 1, and one of at least a, need no division.
+pub fn ceil_div(a: usize, b: usize) -> usize
     ensures { λ r. ⌜ r ≡ ceilDiv a b ⌝ }
 {
-    (a + (b - 1)) / b
+    if b == 1 {
+        return a;
+    }
+    if b == 0 {
+        return 0;
+    }
+    if a == 0 {
+        return 0;
+    }
+    if a <= b {
+        return 1;
+    }
+    (a - 1) / b + 1
 }
 
 // ---- the size rule, for any axis within its limits
@@ -305,115 +296,4 @@ pub fn size_axis(op: Op, auto_pad: AutoPad, rounding: Rounding, axis: Axis) -> S
         return Sizing::Unfit;
     }
     Sizing::Sized(span_of(op, auto_pad, rounding, axis))
-}
-
-// ---- where a tap lies
-
-// A position of an axis of this size, if it lies inside.
-fn position(at: usize, size: u32) -> Tap
-    ensures { λ r. ⌜ r ≡ positionIn size at ⌝ }
-{
-    if at < size as usize {
-        Tap::At(at)
-    } else {
-        Tap::Outside
-    }
-}
-
-// The input position at which tap k of output position p lies.
-pub fn forward(s: Span, p: u32, k: u32) -> Tap
-    ensures { λ r. ⌜ r ≡ forward s p k ⌝ }
-{
-    let at = p as usize * s.stride as usize + k as usize * s.dilation as usize;
-    let begin = s.begin as usize;
-    if at < begin {
-        return Tap::Outside;
-    }
-    position(at - begin, s.input)
-}
-
-// The position that so many strides come to, if they come to one. A stride of 1 needs no division.
-fn position_by(distance: usize, stride: usize, size: u32) -> Tap
-    ensures { λ r. ⌜ r ≡ positionBy size stride distance ⌝ }
-{
-    if stride == 1 {
-        return position(distance, size);
-    }
-    if stride == 0 {
-        if distance == 0 {
-            return position(0, size);
-        }
-        return Tap::Outside;
-    }
-    if distance % stride != 0 {
-        return Tap::Outside;
-    }
-    position(distance / stride, size)
-}
-
-// The input position that tap k reaches from output position q.
-pub fn backward(s: Span, q: u32, k: u32) -> Tap
-    ensures { λ r. ⌜ r ≡ backward s q k ⌝ }
-{
-    let from = q as usize + s.begin as usize;
-    let back = k as usize * s.dilation as usize;
-    if from < back {
-        return Tap::Outside;
-    }
-    position_by(from - back, s.stride as usize, s.input)
-}
-
-// The input position of tap k from output position p, in either direction.
-pub fn tap_on(d: Direction, s: Span, p: u32, k: u32) -> Tap
-    ensures { λ r. ⌜ r ≡ tapOn d s p k ⌝ }
-{
-    match d {
-        Direction::Forward => forward(s, p, k),
-        Direction::Backward => backward(s, p, k),
-    }
-}
-
-// ---- taps inside the input
-
-// The fewest steps that cover a distance; more than any kernel has taps where no number of steps does.
-fn steps_to(distance: usize, step: usize) -> usize
-    requires { ⌜ (distance < 2 ^ 33) × (step < 2 ^ 32) ⌝ }
-    ensures { λ r. ⌜ r ≡ stepsTo distance step ⌝ }
-{
-    if step == 0 {
-        if distance == 0 { 0 } else { 4294967295 }
-    } else {
-        ceil_div(distance, step)
-    }
-}
-
-// The taps of output position p that lie inside the input.
-pub fn taps_inside(s: Span, p: u32) -> Taps
-    ensures { λ r. ⌜ Exactly (s .kernel) (tapInside s p) (r .first) (r .count) ⌝ }
-{
-    let start = p as usize * s.stride as usize;
-    let begin = s.begin as usize;
-    let dilation = s.dilation as usize;
-    let first = steps_to(minus(begin, start), dilation);
-    let until = steps_to(minus(s.input as usize + begin, start), dilation);
-    let end = least(s.kernel as usize, until);
-    let count = minus(end, first);
-    Taps { first, count }
-}
-
-// Whether some output position of an axis has no tap inside the input.
-pub fn some_missed(s: Span) -> bool
-    ensures { λ r. ⌜ r ≡ someMissed s ⌝ }
-{
-    let out = s.out;
-    let mut p: u32 = 0;
-    while p < out {
-        let t = taps_inside(s, p);
-        let count = t.count;
-        if count == 0 {
-            return true;
-        }
-        p += 1;
-    }
-    false
 }

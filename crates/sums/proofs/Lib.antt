@@ -11,3 +11,4 @@ pub mod Outputs
 pub mod Finite
 pub mod Errors
 pub mod Demand
+pub mod Inside

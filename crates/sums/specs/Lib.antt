@@ -3,3 +3,4 @@ pub mod Taps
 pub mod Finite
 pub mod Whole
 pub mod Zero
+pub mod Inside

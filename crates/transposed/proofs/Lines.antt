@@ -13,11 +13,11 @@ use lib.Seq.{getD-drop, take-all}
 use lib.Ieee.{Float, nan}
 use Rattle.layer.proofs.Tests.{or-other, or-neither}
 use Rattle.sizes.specs.Size.{ceilDiv}
-use Rattle.sizes.specs.declared.Tap.{Tap}
-use Rattle.sizes.specs.declared.Tap.the-variants.{At, Outside}
-use Rattle.sizes.specs.Joins.{positionBy, reachOf}
+use Rattle.taps.specs.declared.Tap.{Tap}
+use Rattle.taps.specs.declared.Tap.the-variants.{At, Outside}
+use Rattle.taps.specs.Joins.{positionBy, reachOf}
 use Rattle.sizes.proofs.Division.{ceil-le}
-use Rattle.sizes.proofs.Joins.{reach-finds, at-finds}
+use Rattle.taps.proofs.Joins.{reach-finds, at-finds}
 use Rattle.tensor.specs.Table.{read}
 use Rattle.tensor.proofs.Table.{part-length}
 use Rattle.sums.specs.Taps.{none, pair}

@@ -5,10 +5,10 @@ use mathlib.Core.List.{List}
 use Prim.Native.Nat.{ℕ, _+_, _*_, _≤_, _<_}
 use lib.ListN.{length}
 use lib.Ieee.{Float}
-use Rattle.sizes.specs.declared.Tap.{Tap}
-use Rattle.sizes.specs.declared.Tap.the-variants.{At, Outside}
-use Rattle.sizes.specs.Joins.{reachOf, backward, Below}
-use Rattle.sizes.proofs.Joins.{below-at, reach-below}
+use Rattle.taps.specs.declared.Tap.{Tap}
+use Rattle.taps.specs.declared.Tap.the-variants.{At, Outside}
+use Rattle.taps.specs.Joins.{reachOf, backward, Below}
+use Rattle.taps.proofs.Joins.{below-at, reach-below}
 use Rattle.shape.specs.declared.Shape.{Shape}
 use Rattle.shape.specs.Volumes.{inputRows, kernelRows, onRows}
 use Rattle.tensor.specs.Table.{read}

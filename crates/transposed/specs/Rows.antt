@@ -4,9 +4,9 @@ use Prim.Native.Nat.{ℕ, _+_, _*_, _/_, _%_, _≤_, _<_}
 use mathlib.Core.List.{List}
 use lib.ListN.{length, take, drop}
 use lib.Ieee.{Float}
-use Rattle.sizes.specs.declared.Tap.{Tap}
-use Rattle.sizes.specs.declared.Tap.the-variants.{Outside, At}
-use Rattle.sizes.specs.Joins.{reachOf, backward}
+use Rattle.taps.specs.declared.Tap.{Tap}
+use Rattle.taps.specs.declared.Tap.the-variants.{Outside, At}
+use Rattle.taps.specs.Joins.{reachOf, backward}
 use Rattle.shape.specs.declared.Shape.{Shape}
 use Rattle.shape.specs.Volumes.{inputRows, kernelRows, outRows, onRows}
 use Rattle.tensor.specs.Table.{read}

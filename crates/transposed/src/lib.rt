@@ -6,15 +6,15 @@ use layer::Layer;
 use layer::Op;
 use rows::add_spread;
 use rows::start;
-use rows::steps;
 use shape::Shape;
 use shape::input_rows;
 use shape::kernel_rows;
 use shape::out_rows;
 use shape::row_tap;
-use sizes::Direction;
-use sizes::Tap;
+use sizes::ceil_div;
 use sizes::minus;
+use taps::Direction;
+use taps::Tap;
 ghost use mathlib.Core.Path.{_≡_};
 ghost use Prim.Native.Nat.{_+_, _*_, _≤_, _<_};
 ghost use lib.ListN.{length};
@@ -56,7 +56,7 @@ fn add_tap(
     ensures { λ _. ⌜ Summed (λ x j. rowTap (now (row .entry)) (now (weights .entry)) (x + begin) dilation stride (k + j)) 1 (length (now (out .entry))) (now (out .entry)) (now (out .exit)) ⌝ }
 {
     let back = k * dilation;
-    let first = steps(minus(begin, back), stride);
+    let first = ceil_div(minus(begin, back), stride);
     let lo = first * stride + back - begin;
     if (row.len() <= first) | (out.len() <= lo) {
         return;

@@ -1,71 +1,66 @@
--- Invariant: `sum` is that of the taps of the kernel rows before `at`. One turn is one row more.
-use mathlib.Core.Path.{_≡_, sym, ap, _∙_}
-use Prim.Native.Nat.{ℕ, _+_, _*_, _-_, _≤_, _<_, zero-le}
-use native.Mathlib.Omega.{arith}
+-- Invariant: every output has the taps of the first k rows of the range. One turn is one row more for each; the rows outside the range have no tap inside.
+use mathlib.Core.Path.{_≡_}
+use mathlib.Core.Bool.{true}
+use Prim.Native.Nat.{ℕ, _+_, _*_, _-_, _≤_, _<_}
 use native.Mathlib.Nat.{zero-mul}
-use Rattle.shape.specs.Volumes.{kernelRows}
-use Rattle.sums.specs.Taps.{tapAt, sumFrom}
-use Rattle.sums.proofs.Sums.{sum-start, sum-row}
-use Rattle.convolution.specs.Rows.{placeFrom}
-use Rattle.convolution.proofs.Bounds.{RowsBounds, rows-bounds}
+use native.Mathlib.Omega.{arith}
+use denote.Ref.{now}
+use lib.ListN.{length}
+use Rattle.taps.specs.Taps.{tapInside}
+use Rattle.taps.proofs.Exact.{exactly-in}
+use Rattle.rows.specs.Rows.{Summed}
+use Rattle.rows.proofs.Rows.{summed-start}
+use Rattle.rows.proofs.Ranges.{range-more, range-all}
+use Rattle.convolution.specs.Inside.{depthTaps}
+use Rattle.convolution.proofs.Runs.{columns-within}
+use Rattle.convolution.proofs.Inside.{row-outside}
 use Rattle.convolution.proofs.add_rows.Statement.{statement}
 use Rattle.convolution.proofs.add_rows.Tie as tie
 
 abbrev Inv-loop : tie.InvT-loop
-Inv-loop s input kernel f q start rows total sum₀ at₀ sum at =
-    (at .number ≤ total) × (at .row < rows) × (at .channel * rows + at .row ≡ at .number)
-    × (sum ≡ sumFrom start (λ t. tapAt input kernel (placeFrom s f q t)) (at .number * s .x .kernel))
+Inv-loop s input kernel f channel depth c out₀ first count k₀ out k =
+    (k ≤ count) × Summed (λ x t. depthTaps s input kernel f channel depth (c .output) x (first * s .x .kernel + t)) (k * s .x .kernel) (length out₀) out₀ out
 
 abbrev μ-loop : tie.MeasureT-loop
-μ-loop s input kernel f q start rows total sum₀ at₀ sum at = total - at .number
-
-bounds : (c : tie.After-kernel-rows Inv-loop μ-loop) → RowsBounds (c .before .before .before .args .s) (c .kernel-rows .result)
-bounds c = let a = c .before .before .before in rows-bounds (a .args .s) (a .pre .0 .shape) (c .kernel-rows .ensures)
+μ-loop s input kernel f channel depth c out₀ first count k₀ out k = count - k
 
 loop-holds : tie.Need-loop-holds Inv-loop μ-loop
-loop-holds c = (zero-le, bounds (c .before) .some, omega (arith, zero-mul (c .before .kernel-rows .result)), sym (rw zero-mul (sum-start _ _)))
+loop-holds c = (omega arith, rw zero-mul (summed-start _ _ _))
 
--- a row's number by the kernel rows of a channel
-number : (c : tie.Then1 Inv-loop μ-loop)
-    → let l = c .before .before .loop in l .at .channel * kernelRows (c .before .before .before .before .before .before .before .args .s) + l .at .row ≡ l .at .number
-number c =
-    let l = c .before .before .loop in
-    ap (λ (h : ℕ). l .at .channel * h + l .at .row) (sym (c .before .before .before .before .kernel-rows .ensures)) ∙ l .inv .2
+-- the turn's row is one of the range
+turn : (c : tie.In-loop Inv-loop μ-loop) → let a = c .before .before .before .before .before .before .args in let k = a .f .rows .first + c .before .loop .k in
+    (k < a .s .y .kernel) × (tapInside (a .s .y) (a .f .row) k ≡ true)
+turn c = exactly-in (c .before .before .before .before .before .before .pre .1 .0 .rows-are) (omega arith) (omega (arith, c .loop-test .taken))
+
+small : (c : tie.In-loop Inv-loop μ-loop) → let a = c .before .before .before .before .before .before .args in a .f .rows .first + c .before .loop .k < 64
+small c = omega (arith, turn c .0, c .before .before .before .before .before .before .pre .0 .shape .sound .y .kernel-64)
 
 add-row-requires : tie.Need-add-row-requires Inv-loop μ-loop
 add-row-requires c κs =
-    let l = c .before .before .loop in
-    let k = c .before .before .before .before in
-    let a = k .before .before .before in
-    (a .pre .0, ((a .pre .1 .0, (bounds k .channel (l .at .channel) (l .inv .1) (omega (arith, l .inv .2, c .if1 .taken)), omega (arith, l .inv .1, k .kernel-rows .ensures))), (sym (number c), a .pre .1 .1)))
-
-next-row-requires : tie.Need-next-row-requires Inv-loop μ-loop
-next-row-requires c κs =
-    let l = c .before .before .before .loop in
-    (l .inv .1, (l .inv .2, omega (arith, c .before .if1 .taken, bounds (c .before .before .before .before .before) .few)))
+    let i = c .before in
+    let a = i .before .before .before .before .before .before in
+    (a .pre .0, (a .pre .1 .0, (record { depth = a .pre .1 .1 .0; row-below = turn i .0; row-inside = turn i .1 }, rw (i .before .loop .inv .1 .kept) (a .pre .1 .1 .1))))
 
 loop-again : tie.Need-loop-again Inv-loop μ-loop
 loop-again c =
     let t = c .before .before in
-    let l = t .before .before .loop in
-    let e = c .next-row .ensures in (
-      omega (arith, t .if1 .taken, e .1 .1),
-      e .0,
-      e .1 .0,
-      rw (e .1 .1) (rw (number t) at (c .before .add-row .ensures) ∙ sum-row _ _ _ (l .at .number) _ (l .inv .3)),
-    )
+    let i = t .before .before in
+    let l = i .before .loop in
+    let a = i .before .before .before .before .before .before .args in
+    (omega (arith, i .loop-test .taken), range-more (depthTaps (a .s) _ _ (a .f) (a .channel) (a .depth) (a .c .output)) (a .s .x .kernel) (a .f .rows .first) (l .k) (l .inv .1) (rw (l .inv .1 .kept) at (t .add-row .ensures)))
 
 returns : tie.Need-returns Inv-loop μ-loop
 returns c =
-    let l = c .before .before .loop in
-    let k = c .before .before .before .before in
-    let s = k .before .before .before .args .s in
-    let e : l .at .number ≡ s .i * k .kernel-rows .result = omega (arith, l .inv .0, c .if1 .left) in
-    rw (ap (λ (n : ℕ). n * s .x .kernel) e ∙ bounds k .taps) at (l .inv .3)
+    let l = c .before .loop in
+    let a = c .before .before .before .before .before .before in
+    let s = a .args .s in
+    let e : l .k ≡ a .args .f .rows .count = omega (arith, l .inv .0, c .loop-test .left) in
+    range-all (depthTaps s _ _ (a .args .f) (a .args .channel) (a .args .depth) (a .args .c .output)) (s .x .kernel) (a .args .f .rows .first) (a .pre .1 .0 .rows-are)
+    (λ x b t p q u v. row-outside s (a .pre .0 .shape) _ _ (a .args .f) (a .pre .1 .0) (a .args .channel) (columns-within s (a .args .c) (a .pre .1 .1 .1) p) (a .pre .1 .1 .0 .depth-below) q u v)
+    (rw e at (l .inv .1))
 
 pub add-rows-spec : {M : Type 1} → statement M
 add-rows-spec =
     tie.close
     (tie.spec
-    Inv-loop μ-loop (λ c κs. tt) (λ c. omega (arith, bounds (c .before) .few)) loop-holds add-row-requires next-row-requires
-    (λ c. omega (arith, c .before .before .if1 .taken, c .next-row .ensures .1 .1)) loop-again returns)
+    Inv-loop μ-loop loop-holds (λ c. omega (arith, small c)) (λ c. omega (arith, small c)) add-row-requires (λ c. omega (arith, small (c .before .before .before .before))) (λ c. omega arith) loop-again (λ c. c .before .loop .inv .1 .kept) returns)

@@ -2,7 +2,7 @@
 use Prim.Native.Nat.{_≤_, _-_}
 use mathlib.Core.Path.{_≡_}
 use borrow.Author.Needs.{needs}
-use Rattle.sizes.specs.Joins.{forward}
+use Rattle.taps.specs.Joins.{forward}
 use Rattle.pooling.specs.Steps.{afterTaps, columnStep}
 use Rattle.pooling.proofs.Scan.{taps-none, taps-more, taps-all}
 use Rattle.pooling.proofs.scan_row.Statement.{statement}

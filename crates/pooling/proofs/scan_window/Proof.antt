@@ -3,7 +3,7 @@ use Prim.Native.Nat.{_≤_, _-_}
 use native.Mathlib.Omega.{arith}
 use mathlib.Core.Path.{_≡_, _∙_}
 use borrow.Author.Needs.{needs}
-use Rattle.sizes.specs.Joins.{forward}
+use Rattle.taps.specs.Joins.{forward}
 use Rattle.shape.specs.Volumes.{kernelRows, onRows}
 use Rattle.tensor.specs.declared.Window.the-variants.{Empty}
 use Rattle.pooling.specs.Steps.{afterTaps, rowStep}

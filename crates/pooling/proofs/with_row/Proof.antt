@@ -6,9 +6,9 @@ use Prim.Native.Nat.{_+_, _*_, _≤_}
 use lib.ListN.{length}
 use borrow.Author.Needs.{needs}
 use Rattle.layer.proofs.Places.{part-within}
-use Rattle.sizes.specs.declared.Tap.{Tap}
-use Rattle.sizes.specs.Joins.{forward}
-use Rattle.sizes.proofs.Joins.{forward-below, below-at}
+use Rattle.taps.specs.declared.Tap.{Tap}
+use Rattle.taps.specs.Joins.{forward}
+use Rattle.taps.proofs.Joins.{forward-below, below-at}
 use Rattle.shape.proofs.Volumes.{rows-below}
 use Rattle.tensor.proofs.Table.{part-length}
 use Rattle.pooling.specs.Steps.{afterTap, rowStep}

@@ -3,8 +3,8 @@ use native.Mathlib.Omega.{arith}
 use mathlib.Core.Path.{sym, ap, _∙_}
 use Prim.Native.Nat.{_<_}
 use borrow.Author.Needs.{needs}
-use Rattle.sizes.specs.declared.Tap.{Tap}
-use Rattle.sizes.proofs.Joins.{forward-below, below-at}
+use Rattle.taps.specs.declared.Tap.{Tap}
+use Rattle.taps.proofs.Joins.{forward-below, below-at}
 use Rattle.pooling.specs.Steps.{afterTap, columnStep}
 use Rattle.pooling.proofs.with_tap.Statement.{statement}
 use Rattle.pooling.proofs.with_tap.Tie as tie

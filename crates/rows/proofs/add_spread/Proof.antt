@@ -17,7 +17,7 @@ returns c =
     rw e (spread-no (now (a .values)) (a .weight) (now (a .sums)))
 
 count : (c : tie.After-least) → let a = c .before .before .before .before .before .args in c .least .result ≡ min (length (now (a .values))) (ceilDiv (length (now (a .sums))) (a .stride))
-count c = c .least .ensures ∙ ap (min _) (c .before .steps .ensures)
+count c = c .least .ensures ∙ ap (min _) (c .before .ceil-div .ensures)
 
 some : (c : tie.After-least) → 1 ≤ c .before .before .before .before .before .args .stride
 some c = omega (arith, c .before .before .if1 .left)

@@ -11,7 +11,7 @@ returns : tie.Need-returns
 returns c =
     let a = c .before .before .before .args in
     let e : a .values - c .before .before .reach .result ≡ a .values - (a .taps - 1) * a .dilation = omega (arith, c .before .before .reach .ensures) in
-    c .least .ensures ∙ ap (min (a .sums)) (c .before .steps .ensures ∙ ap (λ (n : ℕ). ceilDiv n (a .stride)) e)
+    c .least .ensures ∙ ap (min (a .sums)) (c .before .ceil-div .ensures ∙ ap (λ (n : ℕ). ceilDiv n (a .stride)) e)
 
 pub sums-held-spec : {M : Type 1} → statement M
 sums-held-spec =

@@ -3,10 +3,10 @@ use Prim.Native.Nat.{_-_, _*_, _<_, _^_}
 use native.Mathlib.Omega.{arith}
 use mathlib.Core.Path.{sym, ap, ap₂}
 use borrow.Author.Needs.{needs}
-use Rattle.sizes.specs.declared.Tap.{Tap}
-use Rattle.sizes.specs.Joins.{both}
+use Rattle.taps.specs.declared.Tap.{Tap}
+use Rattle.taps.specs.Joins.{both}
 use Rattle.sizes.proofs.Division.{times-le}
-use Rattle.sizes.proofs.Joins.{below-at}
+use Rattle.taps.proofs.Joins.{below-at}
 use Rattle.shape.proofs.both.Statement.{statement}
 use Rattle.shape.proofs.both.Tie as tie
 

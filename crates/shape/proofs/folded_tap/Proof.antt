@@ -2,7 +2,7 @@
 use Prim.Native.Nat.{_≤_, _^_}
 use native.Mathlib.Omega.{arith}
 use borrow.Author.Needs.{needs}
-use Rattle.sizes.proofs.Joins.{tap-below, below-more}
+use Rattle.taps.proofs.Joins.{tap-below, below-more}
 use Rattle.shape.proofs.folded_tap.Statement.{statement}
 use Rattle.shape.proofs.folded_tap.Tie as tie
 

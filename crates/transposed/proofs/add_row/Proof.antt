@@ -5,10 +5,10 @@ use Prim.Native.Nat.{ℕ, _+_, _*_}
 use native.Mathlib.Omega.{arith}
 use denote.Ref.{now}
 use lib.ListN.{length}
-use Rattle.sizes.specs.declared.Tap.the-variants.{At}
+use Rattle.taps.specs.declared.Tap.the-variants.{At}
 use Rattle.sizes.specs.Bounds.{SpanLimits}
-use Rattle.sizes.specs.Joins.{backward}
-use Rattle.sizes.proofs.Joins.{backward-below, below-at}
+use Rattle.taps.specs.Joins.{backward}
+use Rattle.taps.proofs.Joins.{backward-below, below-at}
 use Rattle.shape.specs.Volumes.{inputRows, kernelRows, onRows}
 use Rattle.shape.proofs.Volumes.{rows-below}
 use Rattle.transposed.specs.Rows.{rowOf}

@@ -16,14 +16,14 @@ small : (c : tie.After-shared-slice-known2) → let a = c .before .before .befor
 small c = mul-le-mul {n₂ = 64} {m₂ = 16} (omega arith) (omega arith)
 
 -- the first input position, and what the numbers up to the first output fit
-first-is : (c : tie.After-steps) → let a = c .before .before .before .before .before .args in c .steps .result ≡ ceilDiv (a .begin - a .k * a .dilation) (a .stride)
-first-is c = c .steps .ensures ∙ ap (λ (n : ℕ). ceilDiv n (c .before .before .before .before .before .args .stride)) (c .before .minus .ensures)
+first-is : (c : tie.After-ceil-div) → let a = c .before .before .before .before .before .args in c .ceil-div .result ≡ ceilDiv (a .begin - a .k * a .dilation) (a .stride)
+first-is c = c .ceil-div .ensures ∙ ap (λ (n : ℕ). ceilDiv n (c .before .before .before .before .before .args .stride)) (c .before .minus .ensures)
 
-bounds : (c : tie.After-steps) → let a = c .before .before .before .before .before .args in
-    (c .steps .result ≤ 1024) × ((c .steps .result * a .stride ≤ 16384) × ((a .begin ≤ c .steps .result * a .stride + a .k * a .dilation) × (a .k * a .dilation ≤ 1024)))
+bounds : (c : tie.After-ceil-div) → let a = c .before .before .before .before .before .args in
+    (c .ceil-div .result ≤ 1024) × ((c .ceil-div .result * a .stride ≤ 16384) × ((a .begin ≤ c .ceil-div .result * a .stride + a .k * a .dilation) × (a .k * a .dilation ≤ 1024)))
 bounds c =
     let a = c .before .before .before .before .before in
-    let f : c .steps .result ≤ 1024 = omega (arith, first-is c, ceil-self (a .args .begin - a .args .k * a .args .dilation) (a .pre .0 .0)) in
+    let f : c .ceil-div .result ≤ 1024 = omega (arith, first-is c, ceil-self (a .args .begin - a .args .k * a .args .dilation) (a .pre .0 .0)) in
     (f, (mul-le-mul {n₂ = 1024} {m₂ = 16} f (a .pre .0 .1 .0), (cover (a .args .begin) (a .args .k * a .args .dilation) (a .args .stride) (a .pre .0 .0) (first-is c), small (c .before .before))))
 
 returns : tie.Need-returns
@@ -33,7 +33,7 @@ returns c =
 
 -- the row and the input have parts from there on
 parts : (c : tie.Else1) → let a = c .before .before .before .before .before .before .args in
-    (c .before .steps .result ≤ length (now (a .row))) × (c .before .steps .result * a .stride + a .k * a .dilation - a .begin ≤ length (now (a .out)))
+    (c .before .ceil-div .result ≤ length (now (a .row))) × (c .before .ceil-div .result * a .stride + a .k * a .dilation - a .begin ≤ length (now (a .out)))
 parts c = both-left _ _ _ _ (c .if1 .left)
 
 returns-2 : tie.Need-returns-2

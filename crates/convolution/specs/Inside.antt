@@ -1,0 +1,101 @@
+-- For the code, and no part of what is promised: the taps of a row of outputs that lie inside the input, along each axis a range of them. A line is a row of an
+-- output plane, numbered through all planes.
+use mathlib.Core.Path.{_≡_}
+use mathlib.Core.Bool.{true, false}
+use mathlib.Core.List.{List}
+use Prim.Native.Nat.{ℕ, _+_, _-_, _*_, _/_, _%_, _≤_, _<_}
+use lib.ListN.{take, drop}
+use lib.Ieee.{Float}
+use Rattle.taps.specs.Taps.{tapInside, positionOf, Exactly}
+use Rattle.shape.specs.declared.Shape.{Shape}
+use Rattle.shape.specs.Volumes.{inputRows, outRows, kernelVolume}
+use Rattle.sums.specs.Taps.{Factors, tapAt}
+use Rattle.sums.specs.Inside.{insideOnly}
+use Rattle.convolution.specs.Convolution.{placeOf}
+use Rattle.convolution.specs.declared.Line.{Line}
+use Rattle.convolution.specs.declared.KernelRow.{KernelRow}
+use Rattle.convolution.specs.declared.Columns.{Columns}
+
+-- tap t of output j where it lies inside the input; else it takes no part
+abbrev pub insideTaps : Shape → List Float → List Float → ℕ → ℕ → Factors
+insideTaps s input kernel j t = tapAt input kernel (insideOnly (placeOf s j t))
+
+-- the number of taps of a kernel depth of one channel
+abbrev pub planeTaps : Shape → ℕ
+planeTaps s = s .y .kernel * s .x .kernel
+
+-- the taps of the outputs of a line from number p on
+abbrev pub lineTaps : Shape → List Float → List Float → ℕ → ℕ → ℕ → ℕ → Factors
+lineTaps s input kernel line p x = insideTaps s input kernel (line * s .x .out + (p + x))
+
+-- those of one channel, of a kernel depth of it, and of a kernel row of that
+abbrev pub channelTaps : Shape → List Float → List Float → Line → ℕ → ℕ → ℕ → ℕ → Factors
+channelTaps s input kernel f channel p x t = lineTaps s input kernel (f .number) p x (channel * kernelVolume s + t)
+
+abbrev pub depthTaps : Shape → List Float → List Float → Line → ℕ → ℕ → ℕ → ℕ → ℕ → Factors
+depthTaps s input kernel f channel depth p x t = channelTaps s input kernel f channel p x (depth * planeTaps s + t)
+
+abbrev pub rowTaps : Shape → List Float → List Float → Line → KernelRow → ℕ → ℕ → ℕ → Factors
+rowTaps s input kernel f r p x t = depthTaps s input kernel f (r .channel) (r .depth) p x (r .row * s .x .kernel + t)
+
+-- ---- what is known of a line
+
+pub record LineOf (s : Shape) (f : Line) : Type 0 where
+  pub within : f .number * s .x .out < s .outputs
+  pub plane-is : f .plane ≡ f .number / outRows s / s .o * s .i
+  pub weight-is : f .weight ≡ f .number / outRows s % s .channels * s .taps
+  pub depth-is : f .depth ≡ f .number % outRows s / s .y .out
+  pub row-is : f .row ≡ f .number % outRows s % s .y .out
+  pub depths-are : Exactly (s .z .kernel) (tapInside (s .z) (f .depth)) (f .depths .first) (f .depths .count)
+  pub rows-are : Exactly (s .y .kernel) (tapInside (s .y) (f .row)) (f .rows .first) (f .rows .count)
+
+-- a kernel depth of a channel that lies inside the input, and a kernel row of it
+pub record DepthInside (s : Shape) (f : Line) (channel depth : ℕ) : Type 0 where
+  pub channel-below : channel < s .i
+  pub depth-below : depth < s .z .kernel
+  pub depth-inside : tapInside (s .z) (f .depth) depth ≡ true
+
+pub record RowInside (s : Shape) (f : Line) (r : KernelRow) : Type 0 where
+  pub depth : DepthInside s f (r .channel) (r .depth)
+  pub row-below : r .row < s .y .kernel
+  pub row-inside : tapInside (s .y) (f .row) (r .row) ≡ true
+
+-- outputs and taps along x of which the first tap of the first output lies inside the input
+pub record FirstInside (s : Shape) (c : Columns) : Type 0 where
+  pub taps : c .first + c .count ≤ s .x .kernel
+  pub first : tapInside (s .x) (c .output) (c .first) ≡ true
+
+-- some outputs of a line, n of them, and some taps that all lie inside the input
+pub record BlockInside (s : Shape) (c : Columns) (n : ℕ) : Type 0 where
+  pub some : 1 ≤ n
+  pub outputs : c .output + n ≤ s .x .out
+  pub some-taps : 1 ≤ c .count
+  pub taps : c .first + c .count ≤ s .x .kernel
+  pub inside : (x t : ℕ) → x < n → t < c .count → tapInside (s .x) (c .output + x) (c .first + t) ≡ true
+
+-- some outputs of a line that have exactly these taps inside the input, one at least
+pub record AlikeInside (s : Shape) (c : Columns) (n : ℕ) : Type 0 where
+  pub some : 1 ≤ n
+  pub outputs : c .output + n ≤ s .x .out
+  pub some-taps : 1 ≤ c .count
+  pub alike : (x : ℕ) → x < n → Exactly (s .x .kernel) (tapInside (s .x) (c .output + x)) (c .first) (c .count)
+
+-- such outputs, or all of a line
+pub record ColumnsInside (s : Shape) (c : Columns) (n : ℕ) : Type 0 where
+  pub run : c .alike ≡ true → AlikeInside s c n
+  pub line : c .alike ≡ false → (c .output ≡ 0) × (n ≡ s .x .out)
+
+-- ---- the parts of the tensors under a kernel row
+
+-- the number, among all rows of the input, of the one under it
+abbrev pub rowNumber : Shape → Line → KernelRow → ℕ
+rowNumber s f r = (f .plane + r .channel) * inputRows s + (positionOf (s .z) (f .depth) (r .depth) * s .y .input + positionOf (s .y) (f .row) (r .row))
+
+-- that row from the first tap of the first output on, and the weights of the taps inside
+abbrev pub valuesOf : Shape → List Float → Line → KernelRow → Columns → List Float
+valuesOf s input f r c =
+    let q = positionOf (s .x) (c .output) (c .first) in
+    take (s .x .input - q) (drop (rowNumber s f r * s .x .input + q) input)
+
+abbrev pub weightsOf : Shape → List Float → Line → KernelRow → Columns → List Float
+weightsOf s kernel f r c = take (c .count) (drop (f .weight + (r .channel * kernelVolume s + (r .depth * planeTaps s + (r .row * s .x .kernel + c .first)))) kernel)

@@ -1,4 +1,0 @@
--- Laws of padded rows.
-pub mod Values
-pub mod Groups
-pub mod Limits

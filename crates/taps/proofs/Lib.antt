@@ -1,0 +1,4 @@
+pub mod Any
+pub mod Inside
+pub mod Exact
+pub mod Joins
