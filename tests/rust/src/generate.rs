@@ -1,5 +1,5 @@
-//! A fixed stream of calls: layers of both versions and of one to three axes that are mostly valid, each number's faults often, damaged sheets, wrong lengths,
-//! and elements at every edge.
+//! A fixed stream of calls: layers of both versions and of one to three axes that are mostly valid, with small pads and large ones, each number's faults often,
+//! damaged sheets, wrong lengths, and elements at every edge.
 use crate::reference::{show_sheet, AutoPad, Axis, Layer, Op, Rounding, UNUSED, X};
 
 /// A small generator of its own (xorshift), so that a seed gives the same calls everywhere.
@@ -105,6 +105,50 @@ fn spatial(r: &mut Random, op: Op, auto_pad: AutoPad, rounding: Rounding, axes: 
     spatial
 }
 
+/// An axis with pads of up to `most`, at one end or at both. The input of a convolution is small, so that many of its windows have no tap inside; a pooling's
+/// pads are less than the kernel reaches and its dilation at most the input, so that its windows hold elements.
+fn padded(r: &mut Random, op: Op, most: u64) -> Axis {
+    let widest = r.pick(&[6, 6, 6, 6, 6, 64]);
+    let (kernel, dilation) = (r.range(1, widest), if r.chance(2) { 1 } else { r.range(2, 16) });
+    let reach = (kernel - 1) * dilation + 1;
+    let most = if op == Op::MaxPool { most.min(reach - 1) } else { most };
+    let [begin, end] = [most; 2].map(|most| {
+        let some = r.range(0, most);
+        r.pick(&[0, some, some, most])
+    });
+    // With the wider strides there are some 40 outputs, and up to 130 where a stride of 16 is too short for that.
+    let stride = if r.chance(3) { r.pick(&[1, 1, 2, 3]) } else { r.range(((begin + end) / 40 + 1).min(16), 16) };
+    let axis = Axis { size: 1, kernel, stride, dilation, begin, end, extra: 0 };
+    if op == Op::Transposed {
+        let rest = (r.range(1, 40) + begin + end).saturating_sub(reach);
+        return Axis { size: rest / stride + 1, extra: rest % stride, ..axis };
+    }
+    let largest = r.pick(&[6, 6, 40]);
+    let size = if op == Op::MaxPool { dilation + r.range(0, 9) } else { r.range(1, largest) };
+    // The kernel fits.
+    Axis { size, end: end.max(reach.saturating_sub(size + begin)), ..axis }
+}
+
+/// Large pads: up to 1,024 on one axis, and on each of the others up to 8 or those that it has; at times a same mode under the same kernels. Channels are few,
+/// so that a call stays quick.
+fn large_pads(r: &mut Random, l: &mut Layer) {
+    let (op, large) = (l.op, r.range(0, l.axes - 1) as usize);
+    for (at, a) in l.used_mut().iter_mut().enumerate() {
+        let most = if at == large { r.pick(&[16, 64, 64, 256, 1024]) } else { 8 };
+        if at == large || r.chance(2) {
+            *a = padded(r, op, most);
+        }
+    }
+    if l.auto_pad == AutoPad::Valid || !r.chance(4) {
+        l.auto_pad = AutoPad::Explicit;
+    }
+    l.n = 1;
+    if op != Op::MaxPool {
+        (l.g, l.o, l.i) = r.pick(&[(1, 1, 1), (1, 1, 2), (1, 2, 1), (2, 1, 1)]);
+        l.c = l.g * l.i;
+    }
+}
+
 /// Version and rounding: half of the poolings are of version 14, and half of these have ceil_torch.
 fn version(r: &mut Random, op: Op) -> (u64, Rounding) {
     match op {
@@ -126,7 +170,7 @@ pub fn layer(r: &mut Random) -> Layer {
     };
     let rank = axes as i64 + 2;
     let (version, rounding) = version(r, op);
-    Layer {
+    let mut layer = Layer {
         version,
         op,
         axes,
@@ -139,7 +183,11 @@ pub fn layer(r: &mut Random) -> Layer {
         auto_pad,
         rounding,
         axis: if op == Op::MaxPool { r.range(0, 2 * rank as u64 - 1) as i64 - rank } else { 0 },
+    };
+    if r.chance(if op == Op::Convolution { 4 } else { 12 }) {
+        large_pads(r, &mut layer);
     }
+    layer
 }
 
 /// As many taps as are taken, or too many: number 4 for a convolution.
@@ -344,13 +392,25 @@ pub enum Kind {
     Whole,
     /// Any good f32, signed zeros, subnormals and 2^40 among them.
     Any,
+    /// Zeros, subnormals and others so small that their products round to zero, seldom 1; in three tensors of four all have one sign.
+    Small,
 }
 
 pub fn kind(r: &mut Random) -> Kind {
-    r.pick(&[Kind::Whole, Kind::Whole, Kind::Any])
+    r.pick(&[Kind::Whole, Kind::Whole, Kind::Whole, Kind::Whole, Kind::Any, Kind::Any, Kind::Small])
 }
 
 const LIMIT: f32 = 1_099_511_627_776.0;
+
+fn small_magnitude(r: &mut Random) -> f32 {
+    match r.range(0, 29) {
+        0 => 1.0,
+        1..=8 => f32::from_bits(r.range(1, 0x007F_FFFF) as u32),
+        9 | 10 => f32::MIN_POSITIVE,
+        11 | 12 => 2f32.powi(-100),
+        _ => 0.0,
+    }
+}
 
 fn element(r: &mut Random, kind: Kind) -> f32 {
     match kind {
@@ -379,6 +439,10 @@ fn element(r: &mut Random, kind: Kind) -> f32 {
                 if v.is_nan() || v.abs() > LIMIT { 0.5 } else { v }
             }
         },
+        Kind::Small => {
+            let magnitude = small_magnitude(r);
+            if r.chance(2) { -magnitude } else { magnitude }
+        }
     }
 }
 
@@ -407,6 +471,10 @@ pub fn spoil_elements(r: &mut Random, t: &mut [f32]) {
 /// Elements of a tensor, seldom with bad ones.
 pub fn tensor(r: &mut Random, kind: Kind, len: usize) -> Vec<f32> {
     let mut t: Vec<f32> = (0..len).map(|_| element(r, kind)).collect();
+    if kind == Kind::Small && !r.chance(4) {
+        let sign = r.pick(&[1.0, -1.0]);
+        t.iter_mut().for_each(|v| *v = v.copysign(sign));
+    }
     if r.chance(24) {
         spoil_elements(r, &mut t);
     }
