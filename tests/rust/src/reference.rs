@@ -354,15 +354,26 @@ pub fn size_along(op: Op, mode: AutoPad, rounding: Rounding, a: &Axis) -> Option
     (out >= 1).then_some(Along { begin, out })
 }
 
+/// Where tap k of output p lies along one axis, inside the input or outside, for convolution and pooling.
+pub fn tap_position(a: &Axis, s: &Along, p: u64, k: u64) -> i64 {
+    (p * a.stride) as i64 - s.begin + (k * a.dilation) as i64
+}
+
 /// The input's place along one axis at tap k of output p, if there is one.
 fn tap(op: Op, a: &Axis, s: &Along, p: u64, k: u64) -> Option<u64> {
-    let (p, stride, step) = (p as i64, a.stride as i64, (k * a.dilation) as i64);
+    let stride = a.stride as i64;
+    let back = p as i64 + s.begin - (k * a.dilation) as i64;
     let place = match op {
-        Op::Transposed if (p + s.begin - step).rem_euclid(stride) != 0 => return None,
-        Op::Transposed => (p + s.begin - step).div_euclid(stride),
-        _ => p * stride - s.begin + step,
+        Op::Transposed if back.rem_euclid(stride) != 0 => return None,
+        Op::Transposed => back.div_euclid(stride),
+        _ => tap_position(a, s, p, k),
     };
     (0..a.size as i64).contains(&place).then_some(place as u64)
+}
+
+/// How many taps of output p lie inside the input along one axis, for convolution and pooling.
+pub fn taps_inside(a: &Axis, s: &Along, p: u64) -> u64 {
+    (0..a.kernel).filter(|k| tap(Op::Convolution, a, s, p, *k).is_some()).count() as u64
 }
 
 /// Whether some output along the axis has no tap inside: its windows hold no element, whatever the other axes have.

@@ -2,7 +2,7 @@
 //! usage: differential [CALLS] [SEED]      (100,000 calls and seed 1 by default)
 use kozamyure::answers::{self, Answer, LengthsAnswer, Part, ShapeAnswer, Written};
 use kozamyure_tests::generate::{self, Kind, Pick, Random};
-use kozamyure_tests::reference::{self, AutoPad, Layer, Op, Refusal, Rounding, Shape, Sum, X, Y, Z};
+use kozamyure_tests::reference::{self, Along, AutoPad, Axis, Layer, Op, Refusal, Rounding, Shape, Sum, X, Y, Z};
 use std::collections::{BTreeMap, BTreeSet};
 use std::process::ExitCode;
 
@@ -40,6 +40,12 @@ struct Counts {
     ceil_torch: BTreeMap<&'static str, u64>,
     /// Accepted calls of max pooling, by version.
     accepted: BTreeMap<u64, u64>,
+    /// Accepted convolutions, by an axis and how the taps of some output lie along it.
+    windows: BTreeMap<(&'static str, &'static str), u64>,
+    /// Accepted convolutions with explicit pads, by what they have.
+    pads: BTreeMap<&'static str, u64>,
+    /// Their rows in which some output has no tap inside the input's columns: the outputs, and whether the stride is above 1.
+    rows_outside: BTreeSet<(u64, bool)>,
     /// Sheets that begin with `version=` and were refused, by the line.
     refused_lines: BTreeMap<u32, u64>,
     failures: u64,
@@ -50,6 +56,26 @@ const VALID_CEIL: [&str; 4] = ["the same size", "a larger size", "7 in place of 
 
 /// What ceil_torch is beside ceil: each must be seen.
 const CEIL_TORCH: [&str; 6] = ["ceil's sizes", "a window less", "a window less with valid", "7 with ceil's sizes", "7 with a window less", "5"];
+
+/// The axes, and how the taps of an output can lie along one: each must be seen on each.
+const AXES: [(usize, &str); 3] = [(Z, "Z"), (Y, "Y"), (X, "X")];
+const WINDOWS: [&str; 6] =
+    ["all inside", "cut at the beginning", "cut at the end", "cut at both ends", "none inside, all on one side", "none inside, some on both sides"];
+
+/// What a convolution with explicit pads has: each must be seen.
+const PADS: [&str; 11] = [
+    "a pad of 64 or more",
+    "a pad of 512 or more",
+    "a pad at one end alone",
+    "pads and a stride above 1",
+    "pads and a dilation above 1",
+    "an output with no tap inside",
+    "at most one output in ten with a tap inside",
+    "no output with a tap inside",
+    "a row of more than 40 outputs, some with no tap inside",
+    "products that all are -0",
+    "products that all are -0 inside and +0 outside",
+];
 
 /// The lines of a sheet with a version line, and the line after the last: each must be seen refused.
 const VERSION_LINES: [u32; 14] = [1, 2, 3, 4, 5, 6, 7, 8, 9, 10, 11, 12, 13, 14];
@@ -151,6 +177,46 @@ impl Counts {
         }
     }
 
+    /// An accepted convolution, by how the taps of its outputs lie along each axis.
+    fn see_windows(&mut self, l: &Layer, shape: &Shape) {
+        for (d, axis) in AXES.into_iter().skip(3 - l.axes as usize) {
+            let (a, s) = (&l.spatial[d], &shape.along[d]);
+            let windows: BTreeSet<_> = (0..s.out as u64).map(|p| window(a, s, p)).collect();
+            for what in windows {
+                *self.windows.entry((axis, what)).or_default() += 1;
+            }
+        }
+    }
+
+    /// An accepted convolution with explicit pads.
+    fn see_pads(&mut self, l: &Layer, shape: &Shape, call: &Call) {
+        let padded = || l.used().iter().filter(|a| a.begin + a.end > 0);
+        let Some(largest) = padded().map(|a| a.begin.max(a.end)).max() else { return };
+        let out = shape.along.map(|s| s.out as u64);
+        let reached = [Z, Y, X].map(|d| (0..out[d]).filter(|p| reference::taps_inside(&l.spatial[d], &shape.along[d], *p) > 0).count() as u64);
+        let (all, with_tap): (u64, u64) = (out.iter().product(), reached.iter().product());
+        let (inside_and_outside, row_outside) = (with_tap > 0 && with_tap < all, reached[X] < out[X]);
+        let has = [
+            largest >= 64,
+            largest >= 512,
+            padded().any(|a| a.begin == 0 || a.end == 0),
+            padded().any(|a| a.stride > 1),
+            padded().any(|a| a.dilation > 1 && a.kernel > 1),
+            with_tap < all,
+            with_tap > 0 && with_tap * 10 <= all,
+            with_tap == 0,
+            row_outside && out[X] > ROWS[0],
+            inside_and_outside && minus_zeros(call, true),
+            inside_and_outside && minus_zeros(call, false),
+        ];
+        for (what, _) in PADS.into_iter().zip(has).filter(|(_, has)| *has) {
+            *self.pads.entry(what).or_default() += 1;
+        }
+        if row_outside && out[X] <= ROWS[0] {
+            self.rows_outside.insert((out[X], l.spatial[X].stride > 1));
+        }
+    }
+
     fn see_three_axes(&mut self, op: Op, number: u32) {
         let (_, name, _) = THREE_AXES.iter().find(|(of, ..)| *of == op).expect("every operator is there");
         *self.three_axes.entry((name, number)).or_default() += 1;
@@ -167,6 +233,29 @@ impl Counts {
         };
         *self.planes.entry(if given { what } else { refused }).or_default() += 1;
     }
+}
+
+/// How the taps of output p lie along an axis.
+fn window(a: &Axis, s: &Along, p: u64) -> &'static str {
+    let [all, cut_at_beginning, cut_at_end, cut_at_both, one_side, both_sides] = WINDOWS;
+    let before = reference::tap_position(a, s, p, 0) < 0;
+    let after = reference::tap_position(a, s, p, a.kernel - 1) >= a.size as i64;
+    match (before, after) {
+        (true, true) if reference::taps_inside(a, s, p) == 0 => both_sides,
+        (true, true) => cut_at_both,
+        (false, false) => all,
+        _ if reference::taps_inside(a, s, p) == 0 => one_side,
+        (true, false) => cut_at_beginning,
+        (false, true) => cut_at_end,
+    }
+}
+
+/// Whether all products of a call's elements are -0: all weights have one sign and all elements of the input the other, and the largest product rounds to
+/// zero. The product of a tap outside, which has the value +0, has its weight's sign.
+fn minus_zeros(call: &Call, negative_weights: bool) -> bool {
+    let negative = |t: &[f32], is: bool| t.iter().all(|v| v.is_sign_negative() == is);
+    let largest = |t: &[f32]| t.iter().fold(0f32, |most, v| most.max(v.abs()));
+    negative(&call.kernel, negative_weights) && negative(&call.input, !negative_weights) && largest(&call.input) * largest(&call.kernel) == 0.0
 }
 
 /// How often each was seen.
@@ -289,6 +378,12 @@ fn check_convolution(r: &mut Random, counts: &mut Counts, op: Op, call: &Call) -
     if let (Some(l), Ok((shape, sums))) = (call.layer, &result) {
         counts.outputs += sums.len() as u64;
         counts.see_rows(l, shape);
+        if op == Op::Convolution {
+            counts.see_windows(l, shape);
+        }
+        if op == Op::Convolution && l.auto_pad == AutoPad::Explicit {
+            counts.see_pads(l, shape, call);
+        }
         if call.kind == Kind::Whole {
             check_whole(counts, call.sheet, shape, sums, &output);
         }
@@ -540,6 +635,21 @@ fn report_bad(counts: &Counts, made: u64) -> bool {
     met(all, "bad tensors", made)
 }
 
+/// Whether accepted convolutions had every kind of window on every axis, and pads with all that they can bring.
+fn report_pads(counts: &Counts, made: u64) -> bool {
+    let mut all = true;
+    for (_, axis) in AXES {
+        let seen = times(&counts.windows, WINDOWS.map(|what| (axis, what)));
+        println!("convolutions by the taps of some output along {axis}: {}", seen.map(|((_, what), n)| format!("{what} {n}")).join("; "));
+        all &= seen.iter().all(|(_, n)| *n > 0);
+    }
+    let seen = times(&counts.pads, PADS);
+    println!("convolutions with pads: {}", seen.map(|(what, n)| format!("{what} {n}")).join("; "));
+    let (rows, all_rows) = (counts.rows_outside.len() as u64, 2 * ROWS[0]);
+    println!("rows of 1 to {} outputs, some with no tap inside, strides of 1 and above: {rows} of {all_rows} seen", ROWS[0]);
+    met(all && rows == all_rows && seen.iter().all(|(_, n)| *n > 0), "convolutions with pads", made)
+}
+
 /// Whether valid with ceil was met with all that it can be beside floor.
 fn report_valid_ceil(counts: &Counts, made: u64) -> bool {
     let seen = times(&counts.valid_ceil, VALID_CEIL);
@@ -578,7 +688,7 @@ fn main() -> ExitCode {
     println!("{} outputs, {} of them whole, {} in the exact case", counts.outputs, counts.whole, counts.exact);
     println!("{} peaks, {} sheets written back", counts.peaks, counts.rewritten);
     let reports =
-        [report_numbers, report_rows, report_planes, report_bad, report_valid_ceil, report_ceil_torch, report_versions, report_three_axes];
+        [report_numbers, report_rows, report_pads, report_planes, report_bad, report_valid_ceil, report_ceil_torch, report_versions, report_three_axes];
     let all_seen = reports.map(|report| report(&counts, made)).iter().all(|seen| *seen);
     if counts.failures > 0 {
         println!("{} comparisons FAILED", counts.failures);
