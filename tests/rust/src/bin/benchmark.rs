@@ -1,12 +1,13 @@
 //! Times each operator of the static library beside baselines on the same inputs: the same loops in plain Rust, in C at -O2 and at -O3, and the limit, which
 //! is C at -O3 tap by tap over whole rows of outputs. All sum in the same order; outputs are compared bit for bit. Prints the best runs, the ratio of the
-//! library's time to plain Rust's, and the share of the limit's speed that the library reaches. With a path it also writes the ratios as a bar chart.
+//! library's time to plain Rust's, and the share of the limit's speed that the library reaches; for a convolution also the share of its taps that lie inside
+//! the input, and the library's time for each of these. With a path it also writes the ratios as a bar chart.
 //! usage: benchmark [CHART.svg]
 use kozamyure_tests::baseline::{c_o2, c_o3, c_rows, plain_rust, Call, Outputs};
 use kozamyure_tests::chart::{chart, Row};
 use kozamyure_tests::generate::Random;
 use kozamyure_tests::reference::Op::{self, Convolution, MaxPool, Transposed};
-use kozamyure_tests::reference::{judge, show_sheet, Axis, Layer, UNUSED};
+use kozamyure_tests::reference::{judge, show_sheet, taps_inside, Axis, Layer, Shape, UNUSED};
 use std::process::ExitCode;
 use std::time::{Duration, Instant};
 
@@ -28,6 +29,15 @@ const CASES: &[Case] = &[
     (Convolution, [4, 128, 128, 8, 3, 2, 1, 1], ""),
     (Convolution, [4, 64, 64, 8, 3, 1, 2, 2], ""),
     (Convolution, [4, 64, 64, 8, 3, 1, 1, 20], " (wide pads)"),
+    (Convolution, [1, 64, 64, 1, 5, 1, 1, 0], ""),
+    (Convolution, [1, 64, 64, 1, 5, 1, 1, 16], ""),
+    (Convolution, [1, 64, 64, 1, 5, 1, 1, 64], ""),
+    (Convolution, [1, 64, 64, 1, 5, 1, 1, 1024], ""),
+    (Convolution, [1, 64, 64, 1, 5, 1, 2, 64], ""),
+    (Convolution, [1, 64, 64, 1, 5, 2, 1, 64], ""),
+    (Convolution, [1, 64, 64, 1, 31, 1, 1, 15], ""),
+    (Convolution, [1, 64, 64, 1, 31, 1, 1, 30], ""),
+    (Convolution, [1, 64, 64, 1, 63, 1, 1, 31], ""),
     // One tap for each channel.
     (Convolution, [1, 64, 64, 8, 1, 1, 1, 0], ""),
     (Convolution, [16, 64, 64, 8, 1, 1, 1, 0], ""),
@@ -68,6 +78,7 @@ const CASES: &[Case] = &[
 /// Calls with three axes: Z, and a case with its Y, X and so on; the kernel has the same size on each axis.
 const THREE_AXES: &[(u64, Case)] = &[
     (16, (Convolution, [4, 32, 32, 4, 3, 1, 1, 1], "")),
+    (16, (Convolution, [4, 32, 32, 4, 3, 1, 1, 16], "")),
     (16, (MaxPool, [16, 64, 64, 1, 2, 2, 1, 0], "")),
 ];
 
@@ -102,6 +113,22 @@ impl Measured {
     fn share(&self) -> Option<f64> {
         self.times.get(4).map(|limit| 100.0 * limit / self.times[0])
     }
+
+    /// A convolution's share of taps inside the input, in percent, and the library's time for each of them, in nanoseconds.
+    fn inside(&self) -> Option<(f64, f64)> {
+        let Call { layer, shape, .. } = &self.call;
+        let share = (layer.op == Convolution).then(|| share_inside(layer, shape))?;
+        Some((100.0 * share, self.times[0] * 1e6 / (share * (shape.outputs * shape.taps) as f64)))
+    }
+}
+
+/// The taps inside the input of all outputs, as a share of outputs times K. A tap is inside if it is inside on every axis, so the axes' shares are multiplied.
+fn share_inside(l: &Layer, s: &Shape) -> f64 {
+    let along = l.spatial.iter().zip(&s.along).map(|(a, s)| {
+        let inside: u64 = (0..s.out as u64).map(|p| taps_inside(a, s, p)).sum();
+        inside as f64 / (s.out as u64 * a.kernel) as f64
+    });
+    along.product()
 }
 
 fn layer(z: Option<u64>, &(op, [c, y, x, o, kernel, stride, dilation, pads], _): &Case) -> Layer {
@@ -177,6 +204,8 @@ fn print(m: &Measured) {
     cells.resize(3 + RUNS.len(), "-".to_string());
     cells.push(format!("{:.2}", m.ratio()));
     cells.push(m.share().map_or("-".to_string(), |s| format!("{s:.0} %")));
+    let (share, time) = m.inside().map_or(("-".to_string(), "-".to_string()), |(share, time)| (format!("{share:.2} %"), format!("{time:.3}")));
+    cells.extend([share, time]);
     println!("| {} |", cells.join(" | "));
 }
 
@@ -193,8 +222,8 @@ fn worst<'a>(what: &str, measured: impl Iterator<Item = &'a Measured> + Clone) {
 /// Measures all calls and prints the table and the worst of each operator.
 fn run() -> Vec<Measured> {
     let times = RUNS.map(|(what, _)| format!("{what}, ms")).join(" | ");
-    println!("| call | taps | outputs | {times} | library / plain Rust | limit / library |");
-    println!("|---|---|---|---|---|---|---|---|---|---|");
+    println!("| call | taps | outputs | {times} | library / plain Rust | limit / library | taps inside | library, ns a tap inside |");
+    println!("|---|---|---|---|---|---|---|---|---|---|---|---|");
     let three_axes = THREE_AXES.iter().map(|(z, case)| Measured::new(Some(*z), case));
     let mut measured: Vec<Measured> = CASES.iter().map(|case| Measured::new(None, case)).chain(three_axes).collect();
     for _ in 0..PASSES {
