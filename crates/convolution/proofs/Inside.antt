@@ -1,7 +1,7 @@
 -- An output's taps by channel, depth, row and column: what each has for the sum over the taps inside the input.
 use mathlib.Core.Path.{_≡_, refl, sym, ap, ap₂, _∙_}
 use mathlib.Core.List.{List}
-use mathlib.Core.Bool.{true, false}
+use mathlib.Core.Bool.{Bool, true, false}
 use Prim.Native.Nat.{ℕ, _+_, _-_, _*_, _/_, _%_, _≤_, _<_}
 use native.Mathlib.Nat.{mul-assoc, mod-lt, div-add-mod'}
 use native.Mathlib.Omega.{arith}
@@ -11,7 +11,7 @@ use Rattle.taps.specs.declared.Tap.{Tap}
 use Rattle.taps.specs.declared.Tap.the-variants.{Outside, At}
 use Rattle.taps.specs.Taps.{tapInside, positionOf}
 use Rattle.taps.specs.Joins.{forward, both}
-use Rattle.taps.proofs.Exact.{forward-at, forward-outside, both-outer, both-inner, both-at}
+use Rattle.taps.proofs.Exact.{exactly-none, forward-at, forward-outside, both-outer, both-inner, both-at}
 use Rattle.shape.specs.declared.Shape.{Shape}
 use Rattle.shape.specs.Facts.{Grouped}
 use Rattle.shape.specs.Volumes.{inputRows, kernelRows, outRows, inputPlane, inputVolume, kernelVolume, outVolume, onRows, onPlane}
@@ -24,9 +24,10 @@ use Rattle.rows.proofs.Rows.{summed-away}
 use Rattle.rows.proofs.Ranges.{volume-none}
 use Rattle.call.proofs.Planes.{line-flat, plane-parts, taps-are}
 use Rattle.convolution.specs.Convolution.{weightPlace, placed, placeOf}
-use Rattle.convolution.specs.Inside.{insideTaps, lineTaps, planeTaps, rowNumber, LineOf, DepthInside, RowInside}
+use Rattle.convolution.specs.Inside.{insideTaps, lineTaps, planeTaps, rowNumber, LineOf, RowInside, AlikeInside, WholeRow, PartInside}
 use Rattle.convolution.specs.declared.Line.{Line}
 use Rattle.convolution.specs.declared.KernelRow.{KernelRow}
+use Rattle.convolution.specs.declared.Columns.{Columns}
 
 -- the taps of a channel by depths
 pub volume-is : (s : Shape) → s .z .kernel * planeTaps s ≡ kernelVolume s
@@ -126,3 +127,14 @@ pub line-away : (s : Shape) → Grouped s → (input kernel : List Float) (line 
     → ((x i a b k : ℕ) → x < n → a < s .z .kernel → b < s .y .kernel → k < s .x .kernel → lineTaps s input kernel line p x (tapNumber s i a b k) ≡ none)
     → Summed (lineTaps s input kernel line p) (s .taps) n l l
 line-away s h input kernel line p away = summed-away (λ x t u v. all-none s h (lineTaps s input kernel line p x) (λ i a b k la lb lk. away x i a b k u la lb lk) t v)
+
+-- a part of a line that has no tap along x inside the input
+pub part-away : (s : Shape) (h : Grouped s) (input kernel : List Float) (f : Line) (g : LineOf s f) (c : Columns) {n : ℕ} {l : List Float} → PartInside (s .x) c n → c .count ≡ 0
+    → Summed (lineTaps s input kernel (f .number) (c .output)) (s .taps) n l l
+part-away s h input kernel f g c {n} k z =
+    line-away s h input kernel (f .number) (c .output) (λ x i a b t p la lb lt.
+    column-outside s h input kernel f g i (omega (arith, k .outputs)) la lb lt (exactly-none (rw z at (alike-of (c .alike) (k .run) (k .row) .alike x p)) lt))
+  where
+    alike-of : (b : Bool) → (b ≡ true → AlikeInside (s .x) c n) → (b ≡ false → WholeRow (s .x) c n × (1 ≤ c .count)) → AlikeInside (s .x) c n
+    alike-of true r w = r refl
+    alike-of false r w = absurd (omega (arith, w refl .1))

@@ -1,6 +1,7 @@
--- Laws of convolution: its places, its taps inside the input, the bounds of what the code computes, the sums of neighbouring outputs, the outputs.
+-- Laws of convolution: its places, its taps inside the input, the bounds of what the code computes, a kernel row over a row of the input, the outputs.
 pub mod Places
 pub mod Inside
 pub mod Bounds
 pub mod Runs
+pub mod RowTaps
 pub mod Outputs

@@ -4,11 +4,13 @@ use call::check_sum;
 use layer::Answer;
 use layer::Layer;
 use layer::Op;
+use rows::add_beside;
 use rows::add_taps;
 use rows::start;
 use shape::Shape;
 use shape::input_rows;
 use shape::out_rows;
+use sizes::Span;
 use sizes::least;
 use taps::Taps;
 use taps::outputs_inside;
@@ -18,7 +20,6 @@ use taps::taps_inside;
 ghost use mathlib.Core.Path.{_≡_};
 ghost use Prim.Native.Nat.{_+_, _*_, _≤_, _<_};
 ghost use lib.ListN.{length};
-ghost use Rattle.taps.specs.Taps.{Alike};
 ghost use Rattle.shape.specs.Facts.{Grouped};
 ghost use Rattle.shape.specs.Volumes.{kernelVolume};
 ghost use Rattle.tensor.specs.Table.{tabulate};
@@ -27,7 +28,7 @@ ghost use Rattle.rows.specs.Rows.{Summed};
 ghost use Rattle.call.specs.Call.{answerOf, contentsOf, WholeOutputs, FiniteOutputs};
 ghost use Rattle.call.specs.Fitting.{Fitting};
 ghost use Rattle.convolution.specs.Convolution.{placeOf};
-ghost use Rattle.convolution.specs.Inside.{lineTaps, channelTaps, depthTaps, rowTaps, planeTaps, rowNumber, valuesOf, weightsOf, LineOf, DepthInside, RowInside, FirstInside, BlockInside, ColumnsInside};
+ghost use Rattle.convolution.specs.Inside.{lineTaps, channelTaps, depthTaps, rowTaps, spanTaps, planeTaps, rowNumber, rowOf, weightsOf, LineOf, DepthInside, RowInside, RowFits, BlockInside, ColumnsInside, PartInside, PartOf};
 
 // A row of outputs, by its number among all rows: the first plane of its group in the input, its first weight, its depth and row in its plane, and its taps along
 // z and y that lie inside the input.
@@ -55,6 +56,12 @@ struct Columns {
     alike: bool,
     first: usize,
     count: usize,
+}
+
+// Outputs of a row, up to `end`, that are taken at a time.
+struct Part {
+    columns: Columns,
+    end: usize,
 }
 
 // Row number `number` of all rows of outputs.
@@ -93,94 +100,95 @@ fn row_number(s: Shape, f: Line, r: KernelRow) -> usize
     (f.plane + r.channel) * input_rows(s) + (z * s.y.input as usize + y)
 }
 
-// That row of the input from the first tap of the first of these outputs on.
-fn values_of(s: Shape, input: &[f32], f: Line, r: KernelRow, c: Columns) -> &[f32]
+// That row of the input.
+fn row_of(s: Shape, input: &[f32], f: Line, r: KernelRow) -> &[f32]
     requires { ⌜ Grouped s × (length (now input) ≡ s .inputs) ⌝ }
-    requires { ⌜ LineOf s f × (RowInside s f r × FirstInside s c) ⌝ }
-    ensures { λ v. ⌜ now v ≡ valuesOf s (now (input .entry)) f r c ⌝ }
+    requires { ⌜ LineOf s f × RowInside s f r ⌝ }
+    ensures { λ v. ⌜ now v ≡ rowOf s (now (input .entry)) f r ⌝ }
 {
     let width = s.x.input as usize;
     let start = row_number(s, f, r) * width;
-    let from = start + position_of(s.x, c.output, c.first as u32);
-    let to = start + width;
-    &input[from..to]
+    let end = start + width;
+    &input[start..end]
 }
 
-// The weights of these taps.
-fn weights_of(s: Shape, kernel: &[f32], f: Line, r: KernelRow, c: Columns) -> &[f32]
+// The weights of a kernel row.
+fn weights_of(s: Shape, kernel: &[f32], f: Line, r: KernelRow) -> &[f32]
     requires { ⌜ Grouped s × (length (now kernel) ≡ s .weights) ⌝ }
-    requires { ⌜ LineOf s f × (RowInside s f r × FirstInside s c) ⌝ }
-    ensures { λ v. ⌜ now v ≡ weightsOf s (now (kernel .entry)) f r c ⌝ }
+    requires { ⌜ LineOf s f × RowInside s f r ⌝ }
+    ensures { λ v. ⌜ now v ≡ weightsOf s (now (kernel .entry)) f r ⌝ }
 {
     let depth = r.channel * s.z.kernel as usize + r.depth as usize;
     let row = depth * s.y.kernel as usize + r.row as usize;
-    let from = f.weight + (row * s.x.kernel as usize + c.first);
-    let to = from + c.count;
-    &kernel[from..to]
+    let taps = s.x.kernel as usize;
+    let start = f.weight + row * taps;
+    let end = start + taps;
+    &kernel[start..end]
 }
 
-// The taps `c.first`, .. of a kernel row, `c.count` of them, more for each of these outputs, where all of them lie inside the input.
-fn add_block(
-    s: Shape,
-    input: &[f32],
-    kernel: &[f32],
-    f: Line,
-    r: KernelRow,
-    c: Columns,
-    out: &mut [f32],
-)
-    requires { ⌜ Fitting s (now input) (now kernel) ⌝ }
-    requires { ⌜ LineOf s f × (RowInside s f r × BlockInside s c (length (now out))) ⌝ }
-    ensures { λ _. ⌜ Summed (λ x t. rowTaps s (now (input .entry)) (now (kernel .entry)) f r (c .output) x (c .first + t)) (c .count) (length (now (out .entry))) (now (out .entry)) (now (out .exit)) ⌝ }
+// ---- a kernel row over a row of the input, of one axis
+
+// These taps more for each of these outputs, where all of them lie inside the input: the part of the row from the first of them on.
+fn add_block(out: &mut [f32], row: &[f32], weights: &[f32], x: Span, c: Columns)
+    requires { ⌜ RowFits x (length (now row)) (length (now weights)) × BlockInside x c (length (now out)) ⌝ }
+    ensures { λ _. ⌜ Summed (λ j t. spanTaps x (now (row .entry)) (now (weights .entry)) (c .output + j) (c .first + t)) (c .count) (length (now (out .entry))) (now (out .entry)) (now (out .exit)) ⌝ }
 {
-    let values = values_of(s, input, f, r, c);
-    let weights = weights_of(s, kernel, f, r, c);
+    let first = c.first;
+    let end = first + c.count;
+    let from = position_of(x, c.output, first as u32);
     add_taps(
         out,
-        values,
-        weights,
-        s.x.stride as usize,
-        s.x.dilation as usize,
+        &row[from..],
+        &weights[first..end],
+        x.stride as usize,
+        x.dilation as usize,
     );
 }
 
-// Tap k of a kernel row more for each output of a row that it reaches.
-fn add_tap(s: Shape, input: &[f32], kernel: &[f32], f: Line, r: KernelRow, k: u32, out: &mut [f32])
-    requires { ⌜ Fitting s (now input) (now kernel) ⌝ }
-    requires { ⌜ LineOf s f × (RowInside s f r × ((k < s .x .kernel) × (length (now out) ≡ s .x .out))) ⌝ }
-    ensures { λ _. ⌜ Summed (λ x t. rowTaps s (now (input .entry)) (now (kernel .entry)) f r 0 x (k + t)) 1 (length (now (out .entry))) (now (out .entry)) (now (out .exit)) ⌝ }
+// Tap k more for each output of a row that it reaches, with a stride of 1.
+fn add_tap(out: &mut [f32], row: &[f32], weights: &[f32], x: Span, k: u32)
+    requires { ⌜ RowFits x (length (now row)) (length (now weights)) × ((x .stride ≡ 1) × ((k < x .kernel) × (length (now out) ≡ x .out))) ⌝ }
+    ensures { λ _. ⌜ Summed (λ j t. spanTaps x (now (row .entry)) (now (weights .entry)) j (k + t)) 1 (length (now (out .entry))) (now (out .entry)) (now (out .exit)) ⌝ }
 {
-    let outputs = outputs_inside(s.x, k);
+    let outputs = outputs_inside(x, k);
     let first = outputs.first;
     let count = outputs.count;
     if count == 0 {
         return;
     }
     let end = first + count;
-    let c = Columns {
-        output: first as u32,
-        alike: false,
-        first: k as usize,
-        count: 1,
-    };
-    add_block(s, input, kernel, f, r, c, &mut out[first..end]);
+    let from = position_of(x, first as u32, k);
+    let to = from + count;
+    let at = k as usize;
+    add_beside(&mut out[first..end], &row[from..to], weights[at]);
 }
 
-// The taps of a kernel row more for each output of a row: tap by tap.
-fn add_by_taps(s: Shape, input: &[f32], kernel: &[f32], f: Line, r: KernelRow, out: &mut [f32])
-    requires { ⌜ Fitting s (now input) (now kernel) ⌝ }
-    requires { ⌜ LineOf s f × (RowInside s f r × (length (now out) ≡ s .x .out)) ⌝ }
-    ensures { λ _. ⌜ Summed (rowTaps s (now (input .entry)) (now (kernel .entry)) f r 0) (s .x .kernel) (length (now (out .entry))) (now (out .entry)) (now (out .exit)) ⌝ }
+// All taps more for each output of a row: tap by tap.
+fn add_by_taps(out: &mut [f32], row: &[f32], weights: &[f32], x: Span)
+    requires { ⌜ RowFits x (length (now row)) (length (now weights)) × ((x .stride ≡ 1) × (length (now out) ≡ x .out)) ⌝ }
+    ensures { λ _. ⌜ Summed (spanTaps x (now (row .entry)) (now (weights .entry))) (x .kernel) (length (now (out .entry))) (now (out .entry)) (now (out .exit)) ⌝ }
 {
-    let kernel_x = s.x.kernel;
+    let taps = x.kernel;
     let mut k: u32 = 0;
-    while k < kernel_x {
-        add_tap(s, input, kernel, f, r, k, out);
+    while k < taps {
+        add_tap(out, row, weights, x, k);
         k += 1;
     }
 }
 
-// The taps of a kernel row more for each of these outputs: those that are alike side by side, a whole row tap by tap.
+// All taps more for each of these outputs: those that are alike side by side, a whole row tap by tap.
+fn add_span(out: &mut [f32], row: &[f32], weights: &[f32], x: Span, c: Columns)
+    requires { ⌜ RowFits x (length (now row)) (length (now weights)) × ColumnsInside x c (length (now out)) ⌝ }
+    ensures { λ _. ⌜ Summed (λ j. spanTaps x (now (row .entry)) (now (weights .entry)) (c .output + j)) (x .kernel) (length (now (out .entry))) (now (out .entry)) (now (out .exit)) ⌝ }
+{
+    if c.alike {
+        add_block(out, row, weights, x, c);
+        return;
+    }
+    add_by_taps(out, row, weights, x);
+}
+
+// The taps of a kernel row more for each of these outputs.
 fn add_row(
     s: Shape,
     input: &[f32],
@@ -191,14 +199,12 @@ fn add_row(
     out: &mut [f32],
 )
     requires { ⌜ Fitting s (now input) (now kernel) ⌝ }
-    requires { ⌜ LineOf s f × (RowInside s f r × ColumnsInside s c (length (now out))) ⌝ }
+    requires { ⌜ LineOf s f × (RowInside s f r × ColumnsInside (s .x) c (length (now out))) ⌝ }
     ensures { λ _. ⌜ Summed (rowTaps s (now (input .entry)) (now (kernel .entry)) f r (c .output)) (s .x .kernel) (length (now (out .entry))) (now (out .entry)) (now (out .exit)) ⌝ }
 {
-    if c.alike {
-        add_block(s, input, kernel, f, r, c, out);
-        return;
-    }
-    add_by_taps(s, input, kernel, f, r, out);
+    let row = row_of(s, input, f, r);
+    let weights = weights_of(s, kernel, f, r);
+    add_span(out, row, weights, s.x, c);
 }
 
 // ---- all kernel rows inside the input
@@ -215,7 +221,7 @@ fn add_rows(
     out: &mut [f32],
 )
     requires { ⌜ Fitting s (now input) (now kernel) ⌝ }
-    requires { ⌜ LineOf s f × (DepthInside s f channel depth × ColumnsInside s c (length (now out))) ⌝ }
+    requires { ⌜ LineOf s f × (DepthInside s f channel depth × ColumnsInside (s .x) c (length (now out))) ⌝ }
     ensures { λ _. ⌜ Summed (depthTaps s (now (input .entry)) (now (kernel .entry)) f channel depth (c .output)) (planeTaps s) (length (now (out .entry))) (now (out .entry)) (now (out .exit)) ⌝ }
 {
     let rows = f.rows;
@@ -244,7 +250,7 @@ fn add_depths(
     out: &mut [f32],
 )
     requires { ⌜ Fitting s (now input) (now kernel) ⌝ }
-    requires { ⌜ LineOf s f × ((channel < s .i) × ColumnsInside s c (length (now out))) ⌝ }
+    requires { ⌜ LineOf s f × ((channel < s .i) × ColumnsInside (s .x) c (length (now out))) ⌝ }
     ensures { λ _. ⌜ Summed (channelTaps s (now (input .entry)) (now (kernel .entry)) f channel (c .output)) (kernelVolume s) (length (now (out .entry))) (now (out .entry)) (now (out .exit)) ⌝ }
 {
     let depths = f.depths;
@@ -260,7 +266,7 @@ fn add_depths(
 // All taps of each of these outputs: channel by channel.
 fn add_channels(s: Shape, input: &[f32], kernel: &[f32], f: Line, c: Columns, out: &mut [f32])
     requires { ⌜ Fitting s (now input) (now kernel) ⌝ }
-    requires { ⌜ LineOf s f × ColumnsInside s c (length (now out)) ⌝ }
+    requires { ⌜ LineOf s f × ColumnsInside (s .x) c (length (now out)) ⌝ }
     ensures { λ _. ⌜ Summed (lineTaps s (now (input .entry)) (now (kernel .entry)) (f .number) (c .output)) (s .taps) (length (now (out .entry))) (now (out .entry)) (now (out .exit)) ⌝ }
 {
     let mut channel = 0;
@@ -272,71 +278,66 @@ fn add_channels(s: Shape, input: &[f32], kernel: &[f32], f: Line, c: Columns, ou
 
 // ---- every row of outputs
 
-// All taps of each of some outputs of a row, which have these taps along x inside the input: side by side.
-fn add_run(
-    s: Shape,
-    input: &[f32],
-    kernel: &[f32],
-    f: Line,
-    output: u32,
-    taps: Taps,
-    out: &mut [f32],
-)
-    requires { ⌜ Fitting s (now input) (now kernel) ⌝ }
-    requires { ⌜ LineOf s f × ((1 ≤ length (now out)) × ((output + length (now out) ≤ s .x .out) × Alike (s .x) output (output + length (now out)) (taps .first) (taps .count))) ⌝ }
-    ensures { λ _. ⌜ Summed (lineTaps s (now (input .entry)) (now (kernel .entry)) (f .number) output) (s .taps) (length (now (out .entry))) (now (out .entry)) (now (out .exit)) ⌝ }
+// The taps along x of a kernel row from which on a row of outputs is taken tap by tap, if it has as many outputs and the stride is 1.
+const WIDE: u32 = 9;
+
+// The outputs of a row of n from number p on that are taken at a time: those that have the same taps along x inside the input, by these taps; or, under a wide
+// kernel, the whole row, by the outputs that each tap reaches. Both are the same pairs of output and tap.
+fn part_from(x: Span, p: u32, n: u32) -> Part
+    requires { ⌜ p < n ⌝ }
+    ensures { λ r. ⌜ PartOf x p n r ⌝ }
 {
-    let first = taps.first;
-    let count = taps.count;
-    if count == 0 {
+    if (WIDE <= x.kernel) & (WIDE <= n) & (x.stride == 1) & (p == 0) {
+        let whole = Columns {
+            output: 0,
+            alike: false,
+            first: 0,
+            count: x.kernel as usize,
+        };
+        return Part {
+            columns: whole,
+            end: n as usize,
+        };
+    }
+    let run = run_from(x, p);
+    let taps = run.taps;
+    let columns = Columns {
+        output: p,
+        alike: true,
+        first: taps.first,
+        count: taps.count,
+    };
+    let end = least(run.end, n as usize);
+    Part { columns, end }
+}
+
+// All taps of each of these outputs. No tap lies inside the input where none does along x.
+fn add_part(s: Shape, input: &[f32], kernel: &[f32], f: Line, c: Columns, out: &mut [f32])
+    requires { ⌜ Fitting s (now input) (now kernel) ⌝ }
+    requires { ⌜ LineOf s f × PartInside (s .x) c (length (now out)) ⌝ }
+    ensures { λ _. ⌜ Summed (lineTaps s (now (input .entry)) (now (kernel .entry)) (f .number) (c .output)) (s .taps) (length (now (out .entry))) (now (out .entry)) (now (out .exit)) ⌝ }
+{
+    if c.count == 0 {
         return;
     }
-    let c = Columns {
-        output,
-        alike: true,
-        first,
-        count,
-    };
     add_channels(s, input, kernel, f, c, out);
 }
 
-// All taps of each output of a row: neighbours that have the same taps along x inside the input at a time.
-fn add_runs(s: Shape, input: &[f32], kernel: &[f32], f: Line, out: &mut [f32])
-    requires { ⌜ Fitting s (now input) (now kernel) ⌝ }
-    requires { ⌜ LineOf s f × (length (now out) ≡ s .x .out) ⌝ }
-    ensures { λ _. ⌜ Summed (lineTaps s (now (input .entry)) (now (kernel .entry)) (f .number) 0) (s .taps) (length (now (out .entry))) (now (out .entry)) (now (out .exit)) ⌝ }
-{
-    let n = out.len();
-    let mut p = 0;
-    while p < n {
-        let run = run_from(s.x, p as u32);
-        let taps = run.taps;
-        let end = least(run.end, n);
-        add_run(s, input, kernel, f, p as u32, taps, &mut out[p..end]);
-        p = end;
-    }
-}
-
-// The taps along x of a kernel row from which on a row of outputs is taken tap by tap, if it has as many outputs.
-const WIDE: usize = 9;
-
-// All taps of each output of a row: by the taps of its outputs or, under a wide kernel, by the outputs of its taps. Both are the same pairs of output and tap.
+// All taps of each output of a row.
 fn add_outputs(s: Shape, input: &[f32], kernel: &[f32], f: Line, out: &mut [f32])
     requires { ⌜ Fitting s (now input) (now kernel) ⌝ }
     requires { ⌜ LineOf s f × (length (now out) ≡ s .x .out) ⌝ }
     ensures { λ _. ⌜ Summed (lineTaps s (now (input .entry)) (now (kernel .entry)) (f .number) 0) (s .taps) (length (now (out .entry))) (now (out .entry)) (now (out .exit)) ⌝ }
 {
-    if (WIDE <= s.x.kernel as usize) & (WIDE <= out.len()) {
-        let c = Columns {
-            output: 0,
-            alike: false,
-            first: 0,
-            count: 0,
-        };
-        add_channels(s, input, kernel, f, c, out);
-        return;
+    let n = s.x.out;
+    let mut p = 0;
+    while p < out.len() {
+        let part = part_from(s.x, p as u32, n);
+        let columns = part.columns;
+        let end = part.end;
+        add_part(s, input, kernel, f, columns, &mut out[p..end]);
+        p = end;
     }
-    add_runs(s, input, kernel, f, out);
 }
 
 // The same. No tap lies inside the input where none does along z or along y.

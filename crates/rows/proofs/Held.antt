@@ -47,13 +47,13 @@ summed-from values weights stride dilation k i =
 
 -- ---- the first r sums, lent as a part
 
-pub held-part : (sums : List Float) (values taps stride dilation : ℕ) {r : ℕ} → r ≡ held (length sums) values taps stride dilation
+held-part : (sums : List Float) (values taps stride dilation : ℕ) {r : ℕ} → r ≡ held (length sums) values taps stride dilation
     → length (take (r - 0) sums) ≤ held (length (take (r - 0) sums)) values taps stride dilation
 held-part sums values taps stride dilation {r} e =
     let n : length (take (r - 0) sums) ≡ r = rw (sub-zero r) (length-take-le r sums (omega arith)) in
     rw n (omega arith)
 
-pub held-taps : (sums values weights : List Float) (stride dilation : ℕ) {r : ℕ} {ys : List Float} → r ≡ held (length sums) (length values) (length weights) stride dilation
+held-taps : (sums values weights : List Float) (stride dilation : ℕ) {r : ℕ} {ys : List Float} → r ≡ held (length sums) (length values) (length weights) stride dilation
     → Summed (across values weights stride dilation) (length weights) (length (take (r - 0) sums)) (take (r - 0) sums) ys → length (ys ++ drop (r - 0) sums) ≡ length sums
     → Summed (across values weights stride dilation) (length weights) (held (length sums) (length values) (length weights) stride dilation) sums (ys ++ drop (r - 0) sums)
 held-taps sums values weights stride dilation {r} {ys} e i k =
@@ -61,3 +61,12 @@ held-taps sums values weights stride dilation {r} {ys} e i k =
     let t = across values weights stride dilation in
     let j = summed-same {others = λ x. t (0 + x)} (rw (sub-zero r, n) at i) (λ x j p q. ap (λ (m : ℕ). t m j) (sym (zero-add x))) in
     rw (← e, sub-zero r) (rw zero-add at (summed-part t (length weights) 0 r (summed-none t (length weights) sums) (omega arith) j (rw (sub-zero r) at k)))
+
+-- so where the code hands on the stride and the dilation by other names
+module _ (sums values weights : List Float) {stride dilation s d r : ℕ} (es : stride ≡ s) (ed : dilation ≡ d) (e : r ≡ held (length sums) (length values) (length weights) stride dilation) where
+  pub part-held : length (take (r - 0) sums) ≤ held (length (take (r - 0) sums)) (length values) (length weights) s d
+  part-held = held-part sums (length values) (length weights) s d (rw (es, ed) at e)
+
+  pub part-taps : {ys : List Float} → Summed (across values weights s d) (length weights) (length (take (r - 0) sums)) (take (r - 0) sums) ys → length (ys ++ drop (r - 0) sums) ≡ length sums
+      → Summed (across values weights stride dilation) (length weights) (held (length sums) (length values) (length weights) stride dilation) sums (ys ++ drop (r - 0) sums)
+  part-taps i k = rw (es, ed) (held-taps sums values weights s d (rw (es, ed) at e) i k)

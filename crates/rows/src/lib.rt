@@ -127,13 +127,12 @@ fn add_each(sums: &mut [f32], values: &[f32], weights: &[f32], stride: usize, di
     }
 }
 
-// All taps of each sum. A few sums are taken one after another.
+// All taps of each sum.
 fn add_all(sums: &mut [f32], values: &[f32], weights: &[f32], stride: usize, dilation: usize)
     requires { ⌜ length (now sums) ≤ held (length (now sums)) (length (now values)) (length (now weights)) stride dilation ⌝ }
     ensures { λ _. ⌜ Summed (across (now (values .entry)) (now (weights .entry)) stride dilation) (length (now (weights .entry))) (length (now (sums .entry))) (now (sums .entry)) (now (sums .exit)) ⌝ }
 {
-    if sums.len() < 5 {
-        add_each(sums, values, weights, stride, dilation);
+    if sums.len() == 0 {
         return;
     }
     let mut k = 0;
@@ -142,17 +141,37 @@ fn add_all(sums: &mut [f32], values: &[f32], weights: &[f32], stride: usize, dil
     }
 }
 
-// The sum at x takes tap after tap the values at x * stride, x * stride + dilation, .., each with its weight, where the values hold them all. The stride 1 is
-// handed on as a number, so that its loops are compiled by themselves.
+// The sum at x takes tap after tap the values at x * stride, x * stride + dilation, .., each with its weight, where the values hold them all. A few sums are
+// taken one after another. The stride 1, and with it the dilation 1, is handed on as a number, so that its loops are compiled by themselves.
 pub fn add_taps(sums: &mut [f32], values: &[f32], weights: &[f32], stride: usize, dilation: usize)
     ensures { λ _. ⌜ Summed (across (now (values .entry)) (now (weights .entry)) stride dilation) (length (now (weights .entry))) (held (length (now (sums .entry))) (length (now (values .entry))) (length (now (weights .entry))) stride dilation) (now (sums .entry)) (now (sums .exit)) ⌝ }
 {
     let n = sums_held(sums.len(), values.len(), weights.len(), stride, dilation);
+    if n < 5 {
+        add_each(&mut sums[0..n], values, weights, stride, dilation);
+        return;
+    }
+    if (stride == 1) & (dilation == 1) {
+        add_all(&mut sums[0..n], values, weights, 1, 1);
+        return;
+    }
     if stride == 1 {
         add_all(&mut sums[0..n], values, weights, 1, dilation);
         return;
     }
     add_all(&mut sums[0..n], values, weights, stride, dilation);
+}
+
+// Each sum takes the value beside it, with one weight, as far as both slices go.
+pub fn add_beside(sums: &mut [f32], values: &[f32], weight: f32)
+    ensures { λ _. ⌜ Summed (λ x k. pair (read (now (values .entry)) x) weight) 1 (min (length (now (sums .entry))) (length (now (values .entry)))) (now (sums .entry)) (now (sums .exit)) ⌝ }
+{
+    let n = least(sums.len(), values.len());
+    let mut x = 0;
+    while x < n {
+        sums[x] = add_product(sums[x], values[x], weight);
+        x += 1;
+    }
 }
 
 // ---- the start of a row

@@ -44,10 +44,6 @@ tapsOf place input kernel j t = tapAt input kernel (place j t)
 unfoldable pub outputOf : (ℕ → ℕ → Place) → ℕ → List Float → List Float → ℕ → Float
 outputOf place k input kernel j = sumFrom plusZero (tapsOf place input kernel j) k
 
--- ---- the taps of a row: tap t has the t-th value and the t-th weight
-abbrev pub rowTaps : List Float → List Float → ℕ → Factors
-rowTaps values weights t = pair (read values t) (read weights t)
-
 -- ---- for proofs: a place that lies in an input of `inputs` elements and in a kernel of `weights` elements
 abbrev pub InRange : ℕ → ℕ → Place → Type 0
 InRange inputs weights missing = Unit {0}

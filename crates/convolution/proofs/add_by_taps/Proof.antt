@@ -5,15 +5,15 @@ use mathlib.Core.Path.{_≡_, _∙_}
 use lib.ListN.{length}
 use Rattle.rows.specs.Rows.{Summed}
 use Rattle.rows.proofs.Rows.{summed-start, summed-more}
-use Rattle.convolution.specs.Inside.{rowTaps}
+use Rattle.convolution.specs.Inside.{spanTaps}
 use Rattle.convolution.proofs.add_by_taps.Statement.{statement}
 use Rattle.convolution.proofs.add_by_taps.Tie as tie
 
 abbrev Inv-loop : tie.InvT-loop
-Inv-loop s input kernel f r out₀ kernel-x k₀ out k = (k ≤ s .x .kernel) × Summed (rowTaps s input kernel f r 0) k (length out₀) out₀ out
+Inv-loop out₀ row weights x taps k₀ out k = (k ≤ x .kernel) × Summed (spanTaps x row weights) k (length out₀) out₀ out
 
 abbrev μ-loop : tie.MeasureT-loop
-μ-loop s input kernel f r out₀ kernel-x k₀ out k = s .x .kernel - k
+μ-loop out₀ row weights x taps k₀ out k = x .kernel - k
 
 loop-holds : tie.Need-loop-holds Inv-loop μ-loop
 loop-holds c = (omega arith, summed-start _ _ _)
@@ -22,7 +22,7 @@ add-tap-requires : tie.Need-add-tap-requires Inv-loop μ-loop
 add-tap-requires c κs =
     let l = c .before .before in
     let a = l .before .before .before .before in
-    (a .pre .0, (a .pre .1 .0, (a .pre .1 .1 .0, (c .before .loop-test .taken, l .loop .inv .1 .kept ∙ a .pre .1 .1 .1))))
+    (a .pre .0, (a .pre .1 .0, (c .before .loop-test .taken, l .loop .inv .1 .kept ∙ a .pre .1 .1)))
 
 loop-again : tie.Need-loop-again Inv-loop μ-loop
 loop-again c =
@@ -33,7 +33,7 @@ loop-again c =
 returns : tie.Need-returns Inv-loop μ-loop
 returns c =
     let l = c .before .loop in
-    let e : l .k ≡ c .before .before .before .before .before .args .s .x .kernel = omega (arith, l .inv .0, c .loop-test .left) in
+    let e : l .k ≡ c .before .before .before .before .before .args .x .kernel = omega (arith, l .inv .0, c .loop-test .left) in
     rw e at (l .inv .1)
 
 pub add-by-taps-spec : {M : Type 1} → statement M

@@ -57,7 +57,7 @@ returns c =
     let e : l .k ≡ a .args .f .depths .count = omega (arith, l .inv .0, c .loop-test .left) in
     rw (volume-is s) at (range-all (channelTaps s _ _ (a .args .f) (a .args .channel) (a .args .c .output)) (planeTaps s) (a .args .f .depths .first) (a .pre .1 .0 .depths-are)
     (λ x b t p q u v. blocks-none (depthTaps s _ _ (a .args .f) (a .args .channel) b (a .args .c .output) x) (s .y .kernel) (s .x .kernel)
-    (λ y k m n. depth-outside s (a .pre .0 .shape) _ _ (a .args .f) (a .pre .1 .0) (a .args .channel) (columns-within s (a .args .c) (a .pre .1 .1 .1) p) q m n v) t u)
+    (λ y k m n. depth-outside s (a .pre .0 .shape) _ _ (a .args .f) (a .pre .1 .0) (a .args .channel) (columns-within (s .x) (a .args .c) (a .pre .1 .1 .1) p) q m n v) t u)
     (rw e at (l .inv .1)))
 
 pub add-depths-spec : {M : Type 1} → statement M

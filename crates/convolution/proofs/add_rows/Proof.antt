@@ -56,7 +56,7 @@ returns c =
     let s = a .args .s in
     let e : l .k ≡ a .args .f .rows .count = omega (arith, l .inv .0, c .loop-test .left) in
     range-all (depthTaps s _ _ (a .args .f) (a .args .channel) (a .args .depth) (a .args .c .output)) (s .x .kernel) (a .args .f .rows .first) (a .pre .1 .0 .rows-are)
-    (λ x b t p q u v. row-outside s (a .pre .0 .shape) _ _ (a .args .f) (a .pre .1 .0) (a .args .channel) (columns-within s (a .args .c) (a .pre .1 .1 .1) p) (a .pre .1 .1 .0 .depth-below) q u v)
+    (λ x b t p q u v. row-outside s (a .pre .0 .shape) _ _ (a .args .f) (a .pre .1 .0) (a .args .channel) (columns-within (s .x) (a .args .c) (a .pre .1 .1 .1) p) (a .pre .1 .1 .0 .depth-below) q u v)
     (rw e at (l .inv .1))
 
 pub add-rows-spec : {M : Type 1} → statement M
