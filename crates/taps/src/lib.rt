@@ -193,10 +193,13 @@ fn same_until(s: Span, p: u32) -> usize
     if last < begin {
         return end_before(s, p, begin);
     }
-    if (begin <= start) & (last < end) {
-        return end_before(s, p, end);
+    if start < begin {
+        return p as usize + 1;
     }
-    p as usize + 1
+    if end <= last {
+        return p as usize + 1;
+    }
+    end_before(s, p, end)
 }
 
 // The taps of output position p that lie inside the input, and the end of the positions from p on that have the same.
