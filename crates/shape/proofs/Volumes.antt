@@ -58,10 +58,6 @@ pub kernel-rows-are : (s : Shape) → kernelRows s ≡ s .z .kernel * s .y .kern
 unfolding kernelRows
 kernel-rows-are s = refl
 
-pub out-rows-are : (s : Shape) → outRows s ≡ s .z .out * s .y .out
-unfolding outRows
-out-rows-are s = refl
-
 pub input-rows-are : (s : Shape) → inputRows s ≡ s .z .input * s .y .input
 unfolding inputRows
 input-rows-are s = refl

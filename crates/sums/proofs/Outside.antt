@@ -1,8 +1,7 @@
 -- Taps outside the input: a sum that starts at +0 is never -0, so adding +0·w to it changes no bit.
-use mathlib.Core.Path.{_≡_, refl, _∙_}
+use mathlib.Core.Path.{_≡_}
 use mathlib.Core.Bool.{Bool, true, false, not, _&&_}
-use Prim.Native.Nat.{ℕ, zero, suc, _<_}
-use native.Mathlib.Omega.{arith}
+use Prim.Native.Nat.{ℕ, zero, suc}
 use lib.Dec.{T}
 use lib.Ieee.{Float, binary32, fits, mul}
 use lib.Ieee.Fits.{add-fits, mul-fits}
@@ -40,17 +39,3 @@ never-minus-zero taps n = sum-from-zero plusZero taps n zero-from-zero .not-minu
 pub add-outside : (sum w : Float) → FromZero sum → T (finite w) → addTap sum (pair plusZero w) ≡ sum
 unfolding addTap
 add-outside sum w h k = let z = zero-times binary32 w k in rw (z .1) (add-zero-same binary32 sum (z .0) (h .held) (h .not-minus))
-
--- a tap outside the input
-pub record Outside (tap : Factors) : Type 0 where
-  pub weight : Float
-  pub finite : T (finite weight)
-  pub is : tap ≡ pair plusZero weight
-
--- a run of such taps changes no bit
-pub sum-outside : (start : Float) (taps : ℕ → Factors) (n : ℕ) → FromZero start → ((t : ℕ) → t < n → Outside (taps t)) → sumFrom start taps n ≡ start
-unfolding sumFrom
-sum-outside start taps zero h o = refl
-sum-outside start taps (suc n) h o =
-    let l = o n (omega arith) in
-    rw (l .is) (add-outside (sumFrom start taps n) (l .weight) (sum-from-zero start taps n h) (l .finite) ∙ sum-outside start taps n h (λ t k. o t (omega arith)))
