@@ -3,8 +3,8 @@
 use Prim.Native.Nat.{ℕ, zero, suc, _+_, _*_, _/_, _%_, _<_}
 use native.Mathlib.Nat.{mod-lt, mul-pos}
 use native.Mathlib.Omega.{arith}
-use mathlib.Core.Path.{_≡_, refl, sym, ap, ap₂, _∙_, subst, fun-ext}
-use mathlib.Core.Bool.{Bool, true, false, not, _||_, false≢true}
+use mathlib.Core.Path.{_≡_, refl, sym, ap, _∙_, subst, fun-ext}
+use mathlib.Core.Bool.{false, false≢true}
 use mathlib.Core.List.{List, [], _∷_, _++_}
 use lib.Dec.{T}
 use lib.IntN.{ℤ, pos}
@@ -90,6 +90,13 @@ module _ (tap : ℕ → Tap) (f : ℕ → List ℕ) where
       outside Outside q = refl
       outside (At c) q = absurd (h c q)
 
+-- the places of a window lie in the input
+pub window-within : (s : Shape) → Pooled s → (j : ℕ) → j < s .outputs → All (λ q. q < s .inputs) (windowPlaces s j)
+window-within s h j small =
+    let plane = subst (λ (c : ℕ). j / outVolume s < s .n * c) (h .channels-is) (output-plane s (h .sound) small) in
+    over-all (onPlane forward s (j % outVolume s)) _ (λ q. q < s .inputs) (inputVolume s) (plane-below forward s forward-below (j % outVolume s))
+    (λ c l. (omega (arith, place-within plane l, inputs-are s (h .sound)), tt)) (kernelVolume s)
+
 -- ---- the first largest of some places
 all-middle : (P : ℕ → Type 0) (earlier : List ℕ) (p : ℕ) (later : List ℕ) → All P (earlier ++ p ∷ later) → P p
 all-middle P [] p later h = h .0
@@ -112,6 +119,16 @@ own-value : (xs : List Float) (ps : List ℕ) (v : Float) (p : ℕ) → FirstLar
 own-value xs ps v p h = subst (λ (u : Float). FirstLargest xs ps u p) (h .value) h
 
 -- ---- the law
+
+-- the window of output j holds an element of the input, the first largest of its places
+pub record Held (input : List Float) (s : Shape) (j : ℕ) : Type 0 where
+  pub value : Float
+  pub place : ℕ
+  pub is : windowOf input s j ≡ Best value place
+  pub own : value ≡ read input place
+  pub first : FirstLargest input (windowPlaces s j) (read input place) place
+  pub within : place < length input
+
 module _ (layer : Layer) (input values : List Float) (indices : List ℤ) (s : Shape) (e : callVerdict layer input values indices ≡ Run s) (j : ℕ) (small : j < s .outputs) where
   fits : PoolFitting s input (length values) (length indices)
   fits = pool-fitting layer input (length values) (length indices) s e
@@ -126,36 +143,38 @@ module _ (layer : Layer) (input values : List Float) (indices : List ℤ) (s : S
       let held = fits .shape .window (j % outVolume s) (mod-lt j (mul-pos (sound .out-rows-1) (sound .x .out-1))) in
       false≢true (sym (over-none (onPlane forward s (j % outVolume s)) _ (λ c q. false≢true cc) (kernelVolume s) n) ∙ not-false _ held)
 
-  -- the places of the window hold input elements
   places : All (λ q. q < length input) (windowPlaces s j)
-  places =
-      let plane = subst (λ (c : ℕ). j / outVolume s < s .n * c) (fits .shape .channels-is) (output-plane s sound small) in
-      over-all (onPlane forward s (j % outVolume s)) _ (λ q. q < length input) (inputVolume s) (plane-below forward s forward-below (j % outVolume s))
-      (λ c h. (omega (arith, place-within plane h, inputs-are s sound, fits .input-length), tt)) (kernelVolume s)
+  places = subst (λ (n : ℕ). All (λ q. q < n) (windowPlaces s j)) (sym (fits .input-length)) (window-within s (fits .shape) j small)
 
   numbers : All (λ q. NotNan (read input q)) (windowPlaces s j)
   numbers = all-map (λ q l. element-number (read input q) (all-good input (fits .good) q l)) (windowPlaces s j) places
 
-  of-window : (w : Window) → windowOf input s j ≡ w → HoldsBest input (windowPlaces s j) w → BestOfWindow layer input values indices s j
+  of-window : (w : Window) → windowOf input s j ≡ w → HoldsBest input (windowPlaces s j) w → Held input s j
   of-window Empty w h = absurd (window-held h)
   of-window (Best v p) w h =
       let f = own-value input (windowPlaces s j) v p h in
-      record {
-        place = p;
-        within = at-place input (windowPlaces s j) p f (λ q. q < length input) places;
-        largest = f;
-        most = at-most input (windowPlaces s j) p f (at-place input (windowPlaces s j) p f (λ q. NotNan (read input q)) numbers);
-        value =
-            ap (λ l. read l j) (sym (run-leaves _ (pooledValue input) values s e))
-            ∙ tabulate-get (pooledValue input s) nan (s .outputs) j small ∙ ap valueOf w ∙ h .value;
-        index =
-            ap (λ l. getD l j (pos 0)) (sym (run-leaves _ (pooledIndex input) indices s e))
-            ∙ tabulate-get (pooledIndex input s) (pos 0) (s .outputs) j small ∙ ap (indexOf (s .modulus)) w;
-      }
+      record { value = v; place = p; is = w; own = h .value; first = f; within = at-place input (windowPlaces s j) p f (λ q. q < length input) places }
+
+  pub held-window : Held input s j
+  unfolding windowOf
+  held-window = of-window (windowOf input s j) refl (first-largest input (windowPlaces s j) numbers)
 
   pub best-of-window : BestOfWindow layer input values indices s j
-  unfolding windowOf
-  best-of-window = of-window (windowOf input s j) refl (first-largest input (windowPlaces s j) numbers)
+  best-of-window =
+      let h = held-window in
+      let p = h .place in
+      record {
+        place = p;
+        within = h .within;
+        largest = h .first;
+        most = at-most input (windowPlaces s j) p (h .first) (at-place input (windowPlaces s j) p (h .first) (λ q. NotNan (read input q)) numbers);
+        value =
+            ap (λ l. read l j) (sym (run-leaves _ (pooledValue input) values s e))
+            ∙ tabulate-get (pooledValue input s) nan (s .outputs) j small ∙ ap valueOf (h .is) ∙ h .own;
+        index =
+            ap (λ l. getD l j (pos 0)) (sym (run-leaves _ (pooledIndex input) indices s e))
+            ∙ tabulate-get (pooledIndex input s) (pos 0) (s .outputs) j small ∙ ap (indexOf (s .modulus)) (h .is);
+      }
 
 -- every output of a call whose number is 0
 pub best-of-windows : (layer : Layer) (input values : List Float) (indices : List ℤ) → maxPoolAnswer layer input values indices .number ≡ 0

@@ -39,7 +39,8 @@ module _ {A : Type 0} where
   pub lines-none : (w : ℕ) (f : ℕ → A) (l : List A) → Lines w f (length l) l 0 0
   lines-none w f l = (sym (zero-mul w), filled-none f l)
 
-  tabulate-more : (f : ℕ → A) (j w : ℕ) → tabulate f j ++ tabulate (λ x. f (j + x)) w ≡ tabulate f (j + w)
+  -- a tabulated list goes on where another ended
+  pub tabulate-more : (f : ℕ → A) (j w : ℕ) → tabulate f j ++ tabulate (λ x. f (j + x)) w ≡ tabulate f (j + w)
   unfolding tabulate
   tabulate-more f j zero = rw add-zero (append-nil (tabulate f j))
   tabulate-more f j (suc w) = rw (add-suc, ← tabulate-more f j w) (sym (append-assoc (tabulate f j) (tabulate (λ x. f (j + x)) w) (f (j + w) ∷ [])))

@@ -1,0 +1,10 @@
+pub mod Parts
+pub mod Layers
+pub mod Numbers
+pub mod Accepted
+pub mod Sums
+pub mod Places
+pub mod Windows
+pub mod Index
+pub mod Alone
+pub mod Operators
