@@ -26,11 +26,10 @@ use Rattle.transposed.proofs.Places as transposed
 use Rattle.pooling.specs.Call.{pooledValue, pooledIndex, maxPoolAnswer, maxPoolValues, maxPoolIndices}
 use Rattle.pooling.proofs.Accepted.{pool-fitting}
 use Rattle.images.specs.Images.{imageOf, SameElements}
-use Rattle.images.specs.Calls.{SameImage, SameOutputs, OutputsAlone}
+use Rattle.images.specs.Calls.{SameImage, SameOutputs, SamePooling, OutputsAlone}
 use Rattle.images.proofs.Parts.{same-elements}
 use Rattle.images.proofs.Sums.{same-outputs, image-alone}
 use Rattle.images.proofs.Places.{convolution-stays, transposed-stays}
-use Rattle.images.proofs.Windows.{same-pooling}
 
 -- ---- two calls; max pooling has `same-pooling`
 pub same-convolution : SameOutputs Convolution placeOf
@@ -71,7 +70,7 @@ left-elements none op l n va vb fa fb before-a before-b h ra rb e =
     same-elements (l .n) (s .channels) (s .z .out) (s .y .out) (s .x .out) n h (leaves va fa before-a) (leaves vb fb before-b) none
     (leaves-length va fa before-a s ra) (leaves-length vb fb before-b s rb) .1 e
 
--- a convolution of either kind, by its law above
+-- a convolution of either kind, by its law
 pub output-elements : (op : Op) → isPool op ≡ false → (place : Shape → ℕ → ℕ → Place) → SameOutputs op place
     → (l : Layer) (a b kernel before-a before-b : List Float) (n : ℕ) → n < l .n
     → answerOf op l a kernel (length before-a) .number ≡ 0
@@ -87,19 +86,20 @@ output-elements op pool place same l a b kernel before-a before-b n h za zb e =
     left-elements nan op l n _ _ (λ s. outputOf (place s) (s .taps) a kernel) (λ s. outputOf (place s) (s .taps) b kernel) before-a before-b h ra rb
     (same l a b kernel before-a before-b n h za zb (input-image l n a b h (fa .input-length) (fb .input-length) e))
 
-pub pooled-elements : (l : Layer) (a b values-a values-b : List Float) (indices-a indices-b : List ℤ) (n : ℕ) → n < l .n
+-- max pooling, by its law
+pub pooled-elements : SamePooling → (l : Layer) (a b values-a values-b : List Float) (indices-a indices-b : List ℤ) (n : ℕ) → n < l .n
     → maxPoolAnswer l a values-a indices-a .number ≡ 0
     → maxPoolAnswer l b values-b indices-b .number ≡ 0
     → SameInputs l n a b
     → SameIn nan MaxPool l n (maxPoolValues l a values-a indices-a) (maxPoolValues l b values-b indices-b)
     × SameIn (pos 0) MaxPool l n (maxPoolIndices l a values-a indices-a) (maxPoolIndices l b values-b indices-b)
-pooled-elements l a b values-a values-b indices-a indices-b n h za zb e =
+pooled-elements same l a b values-a values-b indices-a indices-b n h za zb e =
     let s = shapeOf MaxPool l in
     let ra = zero-run MaxPool l _ _ za in
     let rb = zero-run MaxPool l _ _ zb in
     let fa = pool-fitting l a (length values-a) (length indices-a) s ra in
     let fb = pool-fitting l b (length values-b) (length indices-b) s rb in
-    let same = same-pooling l a b values-a values-b indices-a indices-b n h za zb (input-image l n a b h (fa .input-length) (fb .input-length) e) in (
-      left-elements nan MaxPool l n _ _ (pooledValue a) (pooledValue b) values-a values-b h ra rb (same .values),
-      left-elements (pos 0) MaxPool l n _ _ (pooledIndex a) (pooledIndex b) indices-a indices-b h ra rb (same .indices),
+    let pooled = same l a b values-a values-b indices-a indices-b n h za zb (input-image l n a b h (fa .input-length) (fb .input-length) e) in (
+      left-elements nan MaxPool l n _ _ (pooledValue a) (pooledValue b) values-a values-b h ra rb (pooled .values),
+      left-elements (pos 0) MaxPool l n _ _ (pooledIndex a) (pooledIndex b) indices-a indices-b h ra rb (pooled .indices),
     )

@@ -69,14 +69,16 @@ module _ (op : Op) (pool : isPool op ≡ false) (place : Shape → ℕ → ℕ �
   facts : Batch op l input
   facts = batch op l _ input _ run (fits .0 .input-length)
 
-  -- output q of image n
-  output-alone : (q : ℕ) → q < outputSize s → outputOf (place s) (s .taps) input kernel (n * outputSize s + q) ≡ outputOf (place t) (t .taps) image kernel q
-  unfolding outputOf
-  output-alone q small =
-      sum-same plusZero (tapsOf (place s) input kernel (n * outputSize s + q)) (tapsOf (place t) image kernel q) (s .taps) (λ u k.
+  -- each tap of output q of image n has the factors that it has in the call alone, so that their sum is the same
+  taps-alone : (q : ℕ) → q < outputSize s → (u : ℕ) → u < s .taps → tapsOf (place s) input kernel (n * outputSize s + q) u ≡ tapsOf (place t) image kernel q u
+  taps-alone q small u k =
       let r = ranges t (grouped op (oneImage l) t pool (facts .one-accepted)) q u (rw (facts .one-outputs) small) k in
       ap (tapAt input kernel) (stays l (fits .0 .shape) n q u)
-      ∙ tap-moved (l .n) (inputSize s) n input kernel (t .weights) (place t q u) (facts .inputs) h (subst (λ (m : ℕ). InRange m (t .weights) (place t q u)) (facts .one-inputs) r))
+      ∙ tap-moved (l .n) (inputSize s) n input kernel (t .weights) (place t q u) (facts .inputs) h (subst (λ (m : ℕ). InRange m (t .weights) (place t q u)) (facts .one-inputs) r)
+
+  output-alone : (q : ℕ) → q < outputSize s → outputOf (place s) (s .taps) input kernel (n * outputSize s + q) ≡ outputOf (place t) (t .taps) image kernel q
+  unfolding outputOf
+  output-alone q small = sum-same plusZero _ _ (s .taps) (taps-alone q small)
 
   -- all of them, by the image alone
   outputs-alone : imageOf (l .n) n (contentsOf op place l input kernel before) ≡ tabulate (outputOf (place t) (t .taps) image kernel) (outputSize s)

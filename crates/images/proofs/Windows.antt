@@ -89,7 +89,7 @@ module _ (l : Layer) (input values : List Float) (indices : List ℤ) (n : ℕ) 
   abbrev more : ℕ
   more = n * inputSize s
 
-  pub run : callVerdict l input values indices ≡ Run s
+  run : callVerdict l input values indices ≡ Run s
   run = zero-run MaxPool l _ _ z
 
   pub fits : PoolFitting s input (length values) (length indices)
@@ -99,12 +99,15 @@ module _ (l : Layer) (input values : List Float) (indices : List ℤ) (n : ℕ) 
   facts = batch MaxPool l _ input _ run (fits .input-length)
 
   -- output q of image n
+  start-moved : (q : ℕ) → (n * outputSize s + q) / outVolume s * inputVolume s ≡ more + q / outVolume s * inputVolume s
+  start-moved q =
+      ap (λ (p : ℕ). p * inputVolume s) (image-plane n (s .channels) (outVolume s) q (volume-1 s (fits .shape .sound)))
+      ∙ plane-moved n (s .c) (q / outVolume s) (inputVolume s)
+
   places-moved : (q : ℕ) → windowPlaces s (n * outputSize s + q) ≡ map (λ p. more + p) (windowPlaces t q)
   unfolding inputRows kernelRows outRows onRows onPlane
   places-moved q =
-      let v = volume-1 s (fits .shape .sound) in
-      let plane : (n * outputSize s + q) / outVolume s * inputVolume s ≡ more + q / outVolume s * inputVolume s = ap (λ (p : ℕ). p * inputVolume s) (image-plane n (s .channels) (outVolume s) q v) ∙ plane-moved n (s .c) (q / outVolume s) (inputVolume s) in
-      rw (plane, image-position n (s .channels) (outVolume s) q v)
+      rw (start-moved q, image-position n (s .channels) (outVolume s) q (volume-1 s (fits .shape .sound)))
       (over-moved (onPlane forward s (q % outVolume s)) more (q / outVolume s * inputVolume s) (kernelVolume s))
 
   window-alone : (q : ℕ) → q < outputSize s → windowOf input s (n * outputSize s + q) ≡ movedWindow more (windowOf image t q)
@@ -114,14 +117,14 @@ module _ (l : Layer) (input values : List Float) (indices : List ℤ) (n : ℕ) 
       ∙ best-moved (l .n) (inputSize s) n input (facts .inputs) h (windowPlaces t q)
       (subst (λ (m : ℕ). All (λ p. p < m) (windowPlaces t q)) (facts .one-inputs) (window-within t (pooled (oneImage l) t (facts .one-accepted)) q (rw (facts .one-outputs) small))) Empty
 
-  -- all of them, by the image alone: `take` is `valueOf` or `indexOf` of the modulus
-  leaves-alone : {A : Type 0} (take : Shape → Window → A) (before : List A)
-      → imageOf (l .n) n (leaves (callVerdict l input values indices) (λ s j. take s (windowOf input s j)) before)
-      ≡ tabulate (λ q. take s (movedWindow more (windowOf image t q))) (outputSize s)
-  leaves-alone take before =
-      ap (imageOf (l .n) n) (sym (run-leaves _ (λ s j. take s (windowOf input s j)) before s run))
-      ∙ image-tabulate (l .n) (outputSize s) n (λ j. take s (windowOf input s j)) (s .outputs) (facts .outputs) h
-      ∙ tabulate-same _ _ (outputSize s) (λ q small. ap (take s) (window-alone q small))
+  -- all of them, by the image alone: `of` is `valueOf`, or `indexOf` with the modulus
+  leaves-alone : {A : Type 0} (of : Shape → Window → A) (before : List A)
+      → imageOf (l .n) n (leaves (callVerdict l input values indices) (λ s j. of s (windowOf input s j)) before)
+      ≡ tabulate (λ q. of s (movedWindow more (windowOf image t q))) (outputSize s)
+  leaves-alone of before =
+      ap (imageOf (l .n) n) (sym (run-leaves _ (λ s j. of s (windowOf input s j)) before s run))
+      ∙ image-tabulate (l .n) (outputSize s) n (λ j. of s (windowOf input s j)) (s .outputs) (facts .outputs) h
+      ∙ tabulate-same _ _ (outputSize s) (λ q small. ap (of s) (window-alone q small))
 
   pub values-alone : imageOf (l .n) n (maxPoolValues l input values indices) ≡ tabulate (λ q. valueOf (movedWindow more (windowOf image t q))) (outputSize s)
   values-alone = leaves-alone (λ s. valueOf) values

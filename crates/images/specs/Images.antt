@@ -5,6 +5,7 @@ use mathlib.Core.List.{List}
 use lib.ListN.{length, take, drop, getD}
 use Rattle.layer.specs.declared.Layer.{Layer}
 use Rattle.tensor.specs.Places.{flatPlace}
+use Rattle.readings.specs.Layers.{layerWith}
 
 -- "Row-major, last axis fastest. Input [N, C, Z, Y, X]": N stands first, and so it does in an output, so that a tensor holds its images one after another, each a
 -- part of the same length. Image n of a tensor of that many images:
@@ -19,20 +20,4 @@ SameElements none C Z Y X n a b =
 
 -- "the same layer with N 1"
 abbrev pub oneImage : Layer → Layer
-oneImage l =
-    record {
-      version = l .version;
-      op = l .op;
-      axes = l .axes;
-      n = 1;
-      c = l .c;
-      g = l .g;
-      o = l .o;
-      i = l .i;
-      z = l .z;
-      y = l .y;
-      x = l .x;
-      «auto_pad» = l .«auto_pad»;
-      rounding = l .rounding;
-      axis = l .axis;
-    }
+oneImage l = layerWith (l .version) 1 l

@@ -1,3 +1,4 @@
+pub mod Layers
 pub mod Pooling
 pub mod Calls
 pub mod Versions

@@ -6,26 +6,11 @@ use lib.IntN.{ℤ}
 use lib.Ieee.{Float}
 use Rattle.layer.specs.declared.Layer.{Layer}
 use Rattle.pooling.specs.Call.{maxPoolAnswer, maxPoolValues, maxPoolIndices}
+use Rattle.readings.specs.Layers.{layerWith}
 
 -- the layer at another version
 abbrev pub atVersion : ℕ → Layer → Layer
-atVersion version l =
-    record {
-      version = version;
-      op = l .op;
-      axes = l .axes;
-      n = l .n;
-      c = l .c;
-      g = l .g;
-      o = l .o;
-      i = l .i;
-      z = l .z;
-      y = l .y;
-      x = l .x;
-      «auto_pad» = l .«auto_pad»;
-      rounding = l .rounding;
-      axis = l .axis;
-    }
+atVersion version l = layerWith version (l .n) l
 
 -- "Floor and ceil mean the same at both versions": every call of max pooling comes back with the same and leaves the same with either layer
 pub record SameCalls (a b : Layer) : Type 0 where
