@@ -137,13 +137,14 @@ fn one_pair(r: &mut Random, seen: &mut Seen) {
         left
     });
     let [first, second] = &left;
+    let [.., refused, _] = IMAGES;
     match left.each_ref().map(|left| left.number) {
         [0, 0] => {
             seen.same("outputs", &l, n, image(l.n, n, &first.outputs), image(l.n, n, &second.outputs));
             seen.same("indices", &l, n, image(l.n, n, &first.indices), image(l.n, n, &second.indices));
             see_pair(seen, &l, n, first, second);
         }
-        [0, _] | [_, 0] => seen.see(name_of(l.op), IMAGES[6], true),
+        [0, _] | [_, 0] => seen.see(name_of(l.op), refused, true),
         _ => {}
     }
 }
