@@ -1,4 +1,4 @@
--- The images of a tensor by places: where the tensor has n images of some size, image k is that part of it, element by element.
+-- The images of a tensor by places: where it has so many images of one size, image n is that part of it, element by element.
 use mathlib.Core.Path.{_≡_, sym, ap, _∙_}
 use mathlib.Core.List.{List}
 use mathlib.Core.Logic.{_↔_}
