@@ -127,8 +127,8 @@ typedef struct {
 /* ---- the operators */
 
 /* Tensors are row-major, as written here for three axes; with two axes every Z is left out, with one every Z and Y. What a call with number 0 leaves for image
- * n of the N depends on that image and the kernel alone, and is what the call on it alone leaves, with N 1; but an index with axis 0 or -R, R being the number
- * of axes plus 2, is n*C*Z*Y*X more. A bad element in any image refuses the whole call, number 9. */
+ * n of the N depends on the sheet, that image and the kernel alone, and is what the call on it alone leaves, with N 1; but an index with axis 0 or -R, R being
+ * the number of axes plus 2, is n*C*Z*Y*X more. A bad element in any image refuses the whole call, number 9. */
 
 /* Input [N, C, Z, Y, X], kernel [G, O, I, KZ, KY, KX], output [N, G*O, OZ, OY, OX]. Numbers 0 to 9 and 20 to 23. */
 koza_answer koza_convolution(const uint8_t *sheet, size_t sheet_len, const float *input, size_t input_len, const float *kernel, size_t kernel_len,

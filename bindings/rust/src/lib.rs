@@ -21,8 +21,9 @@
 //! # }
 //! ```
 //!
-//! What a call leaves for one of the N images of an input depends on that image and the kernel alone, and is what the call on it alone leaves, with N 1; but
-//! an index with axis 0 or -R, R being the number of axes plus 2, counts the images before its own. A bad element in any image refuses the whole call.
+//! What a call leaves for one of the N images of an input depends on the sheet, that image and the kernel alone, and is what the call on it alone leaves,
+//! with N 1; but an index with axis 0 or -R, R being the number of axes plus 2, counts the images before its own. A bad element in any image refuses the
+//! whole call.
 //!
 //! What is proved holds under the assumptions of `include/kozamyure.h`. Slices and the rules of borrowing exclude most faults: pointers are good for
 //! their lengths and aligned, and a buffer that is written overlaps no other and is used by no other thread. These assumptions remain:
