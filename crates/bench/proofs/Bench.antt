@@ -17,9 +17,10 @@ use Rattle.tensor.specs.Element.{elementOk, firstBad, badCount, elementCheck}
 use Rattle.tensor.specs.Window.{All, bestOf}
 use Rattle.sums.specs.Taps.{tapAt, addTap, sumFrom, outputOf}
 use Rattle.sums.specs.Whole.{isWhole, value, product, total, magnitudes}
+use Rattle.sums.proofs.Demand.{not-halved}
 use Rattle.call.specs.Checks.{elementsVerdict, verdict}
 use Rattle.call.specs.Call.{answerIn, leaves}
-use Rattle.convolution.specs.Convolution.{placed, placeOf}
+use Rattle.places.specs.Places.{placed, placeOf}
 use Rattle.transposed.specs.Transposed.{reached, placeOf as transposedPlaceOf}
 use Rattle.pooling.specs.Windows.{overTaps, windowOf}
 use Rattle.bench.specs.Bench.{Holds, benchCases}
@@ -39,7 +40,7 @@ bench =
       sums = record { answer = refl; contents = refl };
       exact = refl;
       allowed = refl;
-      whole = record { whole = tt; near = lit≤ tt; same = λ h. absurd (omega (arith, h)) };
+      whole = record { whole = tt; near = lit≤ tt; nearer = λ e. absurd (not-halved e); same = λ h. absurd (omega (arith, h)) };
     }
     and record { answer = refl; contents = refl }
     and record { answer = refl; values = refl; indices = refl }

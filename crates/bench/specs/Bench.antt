@@ -20,9 +20,10 @@ use Rattle.shape.specs.Counts.{shapeOf}
 use Rattle.tensor.specs.declared.Window.the-variants.{Empty}
 use Rattle.tensor.specs.Table.{plusZero, read, tabulate}
 use Rattle.sums.specs.Taps.{Place, missing, Factors, tapsOf}
+use Rattle.sums.specs.declared.Profile.the-variants.{Running}
 use Rattle.sums.specs.Whole.{WholeSum, exactSum}
 use Rattle.call.specs.Call.{answerOf, contentsOf}
-use Rattle.convolution.specs.Convolution as convolution
+use Rattle.places.specs.Places as convolution
 use Rattle.transposed.specs.Transposed as transposed
 use Rattle.pooling.specs.Windows.{windowOf}
 use Rattle.bench.specs.Sizes.{SizeCase, sizeOf, sizeCases, along, oneAxis}
@@ -48,7 +49,7 @@ entryOutput c = map (λ v. unwritten) (c .output)
 
 pub record Sums (c : SumCase) : Type 0 where
   pub answer : answerOf (c .layer .op) (c .layer) (c .input) (c .kernel) (length (entryOutput c)) ≡ numbered 0
-  pub contents : contentsOf (c .layer .op) (placesOf (c .layer .op)) (c .layer) (c .input) (c .kernel) (entryOutput c) ≡ c .output
+  pub contents : contentsOf (c .layer .op) Running (placesOf (c .layer .op)) (c .layer) (c .input) (c .kernel) (entryOutput c) ≡ c .output
 
 -- ---- the whole-number account of output 0 of a call (demand 3)
 
@@ -69,7 +70,7 @@ pub record Accounts (c : ExactCase) : Type 0 where
   pub sums : Sums (c .call)
   pub exact : exactSum (tapsIn (c .call)) (tapCountIn (c .call)) ≡ c .exact
   pub allowed : (tapCountIn (c .call) - 1) * (tapCountIn (c .call) + 2) / 2 ≡ c .allowed
-  pub whole : WholeSum (tapsIn (c .call)) (tapCountIn (c .call)) (read (c .call .output) 0)
+  pub whole : WholeSum Running (tapsIn (c .call)) (tapCountIn (c .call)) (read (c .call .output) 0)
 
 -- ---- an empty window of a pooling call with one axis: the output's size, the output whose window it is, and where its taps lie
 

@@ -12,6 +12,7 @@ use Rattle.shape.specs.Volumes.{outRows}
 use Rattle.tensor.specs.Table.{read, plusZero, tabulate}
 use Rattle.tensor.proofs.Table.{tabulate-same}
 use Rattle.tensor.proofs.Lines.{LineRoom, line-room}
+use Rattle.sums.specs.declared.Profile.the-variants.{Running}
 use Rattle.sums.specs.Taps.{Place, Factors, pair, tapAt, addTap, sumFrom, outputOf}
 use lib.Ieee.Scale.{finite}
 use Rattle.sums.proofs.Sums.{sum-same}
@@ -40,6 +41,6 @@ line-sums s input kernel taps k h e i = line-filled _ taps k (s .x .out) (read k
 
 -- are its outputs where the places of their taps are: `from` tells them by the output's number in the row
 pub line-outputs : (s : Shape) (place from : ℕ → ℕ → Place) (input kernel : List Float) (line : ℕ) → ((x t : ℕ) → x < s .x .out → from x t ≡ place (line * s .x .out + x) t)
-    → tabulate (λ x. sumFrom plusZero (λ t. tapAt input kernel (from x t)) (s .taps)) (s .x .out) ≡ tabulate (λ x. outputOf place (s .taps) input kernel (line * s .x .out + x)) (s .x .out)
+    → tabulate (λ x. sumFrom plusZero (λ t. tapAt input kernel (from x t)) (s .taps)) (s .x .out) ≡ tabulate (λ x. outputOf Running place (s .taps) input kernel (line * s .x .out + x)) (s .x .out)
 unfolding outputOf
 line-outputs s place from input kernel line e = tabulate-same _ _ (s .x .out) (λ x p. sum-same _ _ _ _ (λ t l. ap (tapAt input kernel) (e x t p)))

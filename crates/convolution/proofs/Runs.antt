@@ -1,8 +1,8 @@
 -- A kernel row over a row of the input, of one axis: for outputs that have the same taps inside the input, and for one tap and the outputs that it reaches. Both run
 -- over the pairs of output and tap that lie inside, and `spanTaps` is none for the others.
-use mathlib.Core.Path.{_≡_, refl, sym, ap, ap₂, _∙_}
+use mathlib.Core.Path.{_≡_, sym, ap, ap₂, _∙_}
 use mathlib.Core.List.{List, _++_}
-use mathlib.Core.Bool.{Bool, true, false, cond}
+use mathlib.Core.Bool.{true, false}
 use Prim.Native.Nat.{ℕ, _+_, _-_, _*_, _≤_, _<_, min}
 use native.Mathlib.Nat.{add-zero, add-mul, mul-one, add-sub-cancel-left}
 use native.Mathlib.Omega.{arith}
@@ -19,7 +19,7 @@ use Rattle.sums.specs.Taps.{none, pair}
 use Rattle.rows.specs.Rows.{Summed, across, held}
 use Rattle.rows.proofs.Rows.{summed-none, summed-part, summed-skip, summed-away, summed-same}
 use Rattle.rows.proofs.Ranges.{range-taps}
-use Rattle.convolution.specs.Inside.{spanTaps, RowFits, BlockInside, AlikeInside, WholeRow, PartInside, ColumnsInside}
+use Rattle.convolution.specs.Inside.{spanTaps, RowFits, BlockInside, AlikeInside, ColumnsInside}
 use Rattle.convolution.specs.declared.Columns.{Columns}
 
 -- a tap by its test

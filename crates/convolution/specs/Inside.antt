@@ -3,30 +3,21 @@
 use mathlib.Core.Path.{_≡_}
 use mathlib.Core.Bool.{true, false, cond}
 use mathlib.Core.List.{List}
-use Prim.Native.Nat.{ℕ, _+_, _-_, _*_, _/_, _%_, _≤_, _<_}
+use Prim.Native.Nat.{ℕ, _+_, _-_, _*_, _≤_, _<_}
 use lib.ListN.{take, drop}
 use lib.Ieee.{Float}
 use Rattle.sizes.specs.declared.Span.{Span}
 use Rattle.sizes.specs.Bounds.{SpanLimits}
 use Rattle.taps.specs.Taps.{tapInside, positionOf, Exactly}
 use Rattle.shape.specs.declared.Shape.{Shape}
-use Rattle.shape.specs.Volumes.{inputRows, outRows, kernelVolume}
+use Rattle.shape.specs.Volumes.{inputRows, kernelVolume}
 use Rattle.tensor.specs.Table.{read}
-use Rattle.sums.specs.Taps.{Factors, none, pair, tapAt}
-use Rattle.sums.specs.Inside.{insideOnly}
-use Rattle.convolution.specs.Convolution.{placeOf}
-use Rattle.convolution.specs.declared.Line.{Line}
+use Rattle.sums.specs.Taps.{Factors, none, pair}
+use Rattle.places.specs.declared.Line.{Line}
+use Rattle.places.specs.Lines.{insideTaps, planeTaps}
 use Rattle.convolution.specs.declared.KernelRow.{KernelRow}
 use Rattle.convolution.specs.declared.Columns.{Columns}
 use Rattle.convolution.specs.declared.Part.{Part}
-
--- tap t of output j where it lies inside the input; else it takes no part
-abbrev pub insideTaps : Shape → List Float → List Float → ℕ → ℕ → Factors
-insideTaps s input kernel j t = tapAt input kernel (insideOnly (placeOf s j t))
-
--- the number of taps of a kernel depth of one channel
-abbrev pub planeTaps : Shape → ℕ
-planeTaps s = s .y .kernel * s .x .kernel
 
 -- the taps of the outputs of a line from number p on
 abbrev pub lineTaps : Shape → List Float → List Float → ℕ → ℕ → ℕ → ℕ → Factors
@@ -42,18 +33,7 @@ depthTaps s input kernel f channel depth p x t = channelTaps s input kernel f ch
 abbrev pub rowTaps : Shape → List Float → List Float → Line → KernelRow → ℕ → ℕ → ℕ → Factors
 rowTaps s input kernel f r p x t = depthTaps s input kernel f (r .channel) (r .depth) p x (r .row * s .x .kernel + t)
 
--- ---- what is known of a line
-
-pub record LineOf (s : Shape) (f : Line) : Type 0 where
-  pub within : f .number * s .x .out < s .outputs
-  pub plane-is : f .plane ≡ f .number / outRows s / s .o * s .i
-  pub weight-is : f .weight ≡ f .number / outRows s % s .channels * s .taps
-  pub depth-is : f .depth ≡ f .number % outRows s / s .y .out
-  pub row-is : f .row ≡ f .number % outRows s % s .y .out
-  pub depths-are : Exactly (s .z .kernel) (tapInside (s .z) (f .depth)) (f .depths .first) (f .depths .count)
-  pub rows-are : Exactly (s .y .kernel) (tapInside (s .y) (f .row)) (f .rows .first) (f .rows .count)
-
--- a kernel depth of a channel that lies inside the input, and a kernel row of it
+-- ---- a kernel depth of a channel that lies inside the input, and a kernel row of it
 pub record DepthInside (s : Shape) (f : Line) (channel depth : ℕ) : Type 0 where
   pub channel-below : channel < s .i
   pub depth-below : depth < s .z .kernel

@@ -13,14 +13,16 @@ use Rattle.layer.specs.Kinds.{isPool}
 use Rattle.shape.specs.declared.Shape.{Shape}
 use Rattle.shape.specs.Counts.{inputCount, shapeOf}
 use Rattle.tensor.proofs.Table.{tabulate-length}
+use Rattle.sums.specs.declared.Profile.{Profile}
+use Rattle.sums.specs.declared.Profile.the-variants.{Running}
 use Rattle.sums.specs.Taps.{Place, outputOf}
 use Rattle.call.specs.declared.Verdict.{Verdict}
 use Rattle.call.specs.declared.Verdict.the-variants.{Run}
 use Rattle.call.specs.Call.{leaves, answerOf, contentsOf}
 use Rattle.call.proofs.Checked.{zero-run}
 use Rattle.call.proofs.Outcome.{run-leaves, fitting}
-use Rattle.convolution.specs.Convolution.{placeOf}
-use Rattle.convolution.proofs.Places as convolution
+use Rattle.places.specs.Places.{placeOf}
+use Rattle.places.proofs.Places as convolution
 use Rattle.transposed.specs.Transposed.{placeOf as transposedPlaceOf}
 use Rattle.transposed.proofs.Places as transposed
 use Rattle.pooling.specs.Call.{pooledValue, pooledIndex, maxPoolAnswer, maxPoolValues, maxPoolIndices}
@@ -32,18 +34,18 @@ use Rattle.images.proofs.Sums.{same-outputs, image-alone}
 use Rattle.images.proofs.Places.{convolution-stays, transposed-stays}
 
 -- ---- two calls; max pooling has `same-pooling`
-pub same-convolution : SameOutputs Convolution placeOf
-same-convolution = same-outputs Convolution refl placeOf convolution.in-range convolution-stays
+pub same-convolution : (profile : Profile) → SameOutputs Convolution profile placeOf
+same-convolution profile = same-outputs Convolution refl profile placeOf convolution.in-range convolution-stays
 
-pub same-transposed : SameOutputs Transposed transposedPlaceOf
-same-transposed = same-outputs Transposed refl transposedPlaceOf transposed.in-range transposed-stays
+pub same-transposed : SameOutputs Transposed Running transposedPlaceOf
+same-transposed = same-outputs Transposed refl Running transposedPlaceOf transposed.in-range transposed-stays
 
 -- ---- an image alone; max pooling has `pooling-alone`
-pub convolution-alone : OutputsAlone Convolution placeOf
-convolution-alone = image-alone Convolution refl placeOf convolution.in-range convolution-stays
+pub convolution-alone : (profile : Profile) → OutputsAlone Convolution profile placeOf
+convolution-alone profile = image-alone Convolution refl profile placeOf convolution.in-range convolution-stays
 
-pub transposed-alone : OutputsAlone Transposed transposedPlaceOf
-transposed-alone = image-alone Transposed refl transposedPlaceOf transposed.in-range transposed-stays
+pub transposed-alone : OutputsAlone Transposed Running transposedPlaceOf
+transposed-alone = image-alone Transposed refl Running transposedPlaceOf transposed.in-range transposed-stays
 
 -- ---- two calls in document 01's indices
 
@@ -71,19 +73,19 @@ left-elements none op l n va vb fa fb before-a before-b h ra rb e =
     (leaves-length va fa before-a s ra) (leaves-length vb fb before-b s rb) .1 e
 
 -- a convolution of either kind, by its law
-pub output-elements : (op : Op) → isPool op ≡ false → (place : Shape → ℕ → ℕ → Place) → SameOutputs op place
+pub output-elements : (op : Op) → isPool op ≡ false → (profile : Profile) (place : Shape → ℕ → ℕ → Place) → SameOutputs op profile place
     → (l : Layer) (a b kernel before-a before-b : List Float) (n : ℕ) → n < l .n
     → answerOf op l a kernel (length before-a) .number ≡ 0
     → answerOf op l b kernel (length before-b) .number ≡ 0
     → SameInputs l n a b
-    → SameIn nan op l n (contentsOf op place l a kernel before-a) (contentsOf op place l b kernel before-b)
-output-elements op pool place same l a b kernel before-a before-b n h za zb e =
+    → SameIn nan op l n (contentsOf op profile place l a kernel before-a) (contentsOf op profile place l b kernel before-b)
+output-elements op pool profile place same l a b kernel before-a before-b n h za zb e =
     let s = shapeOf op l in
     let ra = zero-run op l _ _ za in
     let rb = zero-run op l _ _ zb in
     let fa = fitting op pool l a kernel (length before-a) s ra .0 in
     let fb = fitting op pool l b kernel (length before-b) s rb .0 in
-    left-elements nan op l n _ _ (λ s. outputOf (place s) (s .taps) a kernel) (λ s. outputOf (place s) (s .taps) b kernel) before-a before-b h ra rb
+    left-elements nan op l n _ _ (λ s. outputOf profile (place s) (s .taps) a kernel) (λ s. outputOf profile (place s) (s .taps) b kernel) before-a before-b h ra rb
     (same l a b kernel before-a before-b n h za zb (input-image l n a b h (fa .input-length) (fb .input-length) e))
 
 -- max pooling, by its law

@@ -14,7 +14,7 @@ use Rattle.shape.specs.Counts.{shapeOf}
 use Rattle.shape.specs.Facts.{Sound, Grouped}
 use Rattle.shape.specs.Volumes.{inputRows, kernelRows, outRows, onRows, onPlane, inputPlane, inputVolume, kernelVolume, outVolume}
 use Rattle.sums.specs.Taps.{Place, at}
-use Rattle.convolution.specs.Convolution.{placed, placeOf}
+use Rattle.places.specs.Places.{placed, placeOf}
 use Rattle.transposed.specs.Transposed.{kernelPlane, reached, placeOf as transposedPlaceOf}
 use Rattle.images.specs.Images.{oneImage}
 use Rattle.images.proofs.Numbers.{inputSize, outputSize, image-plane, image-position, image-channel, group-moved}

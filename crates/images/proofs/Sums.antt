@@ -15,8 +15,9 @@ use Rattle.shape.specs.Facts.{Grouped}
 use Rattle.shape.proofs.Accepted.{grouped}
 use Rattle.tensor.specs.Table.{plusZero, tabulate}
 use Rattle.tensor.proofs.Table.{tabulate-same}
-use Rattle.sums.specs.Taps.{Place, missing, outside, at, InRange, tapAt, tapsOf, outputOf}
-use Rattle.sums.proofs.Sums.{sum-same}
+use Rattle.sums.specs.declared.Profile.{Profile}
+use Rattle.sums.specs.Taps.{Place, missing, outside, at, InRange, tapAt, insideOnly, tapsOf, insideTapsOf, outputOf}
+use Rattle.sums.proofs.Outputs.{output-same}
 use Rattle.call.specs.declared.Verdict.the-variants.{Run}
 use Rattle.call.specs.Checks.{sumVerdict}
 use Rattle.call.specs.Call.{answerOf, contentsOf}
@@ -41,7 +42,7 @@ Stays op place =
     (l : Layer) → Grouped (shapeOf op l) → (n q t : ℕ)
     → place (shapeOf op l) (n * outputSize (shapeOf op l) + q) t ≡ moved (n * inputSize (shapeOf op l)) (place (shapeOf op (oneImage l)) q t)
 
--- one tap
+-- one tap, in a running sum and in a halved one
 tap-moved : (images size n : ℕ) (input kernel : List Float) (weights : ℕ) (p : Place) → length input ≡ images * size → n < images → InRange size weights p
     → tapAt input kernel (moved (n * size) p) ≡ tapAt (imageOf images n input) kernel p
 unfolding tapAt
@@ -49,8 +50,15 @@ tap-moved images size n input kernel weights missing e h r = refl
 tap-moved images size n input kernel weights (outside w) e h r = refl
 tap-moved images size n input kernel weights (at a w) e h r = rw (image-get images size n input e h a nan (r .0))
 
+inside-moved : (images size n : ℕ) (input kernel : List Float) (weights : ℕ) (p : Place) → length input ≡ images * size → n < images → InRange size weights p
+    → tapAt input kernel (insideOnly (moved (n * size) p)) ≡ tapAt (imageOf images n input) kernel (insideOnly p)
+unfolding insideOnly
+inside-moved images size n input kernel weights missing e h r = tap-moved images size n input kernel weights missing e h r
+inside-moved images size n input kernel weights (outside w) e h r = tap-moved images size n input kernel weights missing e h tt
+inside-moved images size n input kernel weights (at a w) e h r = tap-moved images size n input kernel weights (at a w) e h r
+
 -- ---- an accepted call
-module _ (op : Op) (pool : isPool op ≡ false) (place : Shape → ℕ → ℕ → Place) (ranges : Ranges place) (stays : Stays op place) (l : Layer) (input kernel before : List Float) (n : ℕ) (h : n < l .n) (z : answerOf op l input kernel (length before) .number ≡ 0) where
+module _ (op : Op) (pool : isPool op ≡ false) (profile : Profile) (place : Shape → ℕ → ℕ → Place) (ranges : Ranges place) (stays : Stays op place) (l : Layer) (input kernel before : List Float) (n : ℕ) (h : n < l .n) (z : answerOf op l input kernel (length before) .number ≡ 0) where
   abbrev s : Shape
   s = shapeOf op l
 
@@ -69,21 +77,23 @@ module _ (op : Op) (pool : isPool op ≡ false) (place : Shape → ℕ → ℕ �
   facts : Batch op l input
   facts = batch op l _ input _ run (fits .0 .input-length)
 
-  -- each tap of output q of image n has the factors that it has in the call alone, so that their sum is the same
-  taps-alone : (q : ℕ) → q < outputSize s → (u : ℕ) → u < s .taps → tapsOf (place s) input kernel (n * outputSize s + q) u ≡ tapsOf (place t) image kernel q u
-  taps-alone q small u k =
-      let r = ranges t (grouped op (oneImage l) t pool (facts .one-accepted)) q u (rw (facts .one-outputs) small) k in
-      ap (tapAt input kernel) (stays l (fits .0 .shape) n q u)
-      ∙ tap-moved (l .n) (inputSize s) n input kernel (t .weights) (place t q u) (facts .inputs) h (subst (λ (m : ℕ). InRange m (t .weights) (place t q u)) (facts .one-inputs) r)
+  -- the place of a tap in the call alone
+  range-alone : (q u : ℕ) → q < outputSize s → u < s .taps → InRange (inputSize s) (t .weights) (place t q u)
+  range-alone q u small k =
+      subst (λ (m : ℕ). InRange m (t .weights) (place t q u)) (facts .one-inputs) (ranges t (grouped op (oneImage l) t pool (facts .one-accepted)) q u (rw (facts .one-outputs) small) k)
 
-  output-alone : (q : ℕ) → q < outputSize s → outputOf (place s) (s .taps) input kernel (n * outputSize s + q) ≡ outputOf (place t) (t .taps) image kernel q
-  unfolding outputOf
-  output-alone q small = sum-same plusZero _ _ (s .taps) (taps-alone q small)
+  -- each tap of output q of image n has the factors that it has in the call alone, so that their sum is the same
+  output-alone : (q : ℕ) → q < outputSize s → outputOf profile (place s) (s .taps) input kernel (n * outputSize s + q) ≡ outputOf profile (place t) (t .taps) image kernel q
+  output-alone q small =
+      output-same profile (place s) (place t) (s .taps) input image kernel _ q
+      (λ u k. ap (tapAt input kernel) (stays l (fits .0 .shape) n q u) ∙ tap-moved (l .n) (inputSize s) n input kernel (t .weights) (place t q u) (facts .inputs) h (range-alone q u small k))
+      (λ u k. ap (λ (p : Place). tapAt input kernel (insideOnly p)) (stays l (fits .0 .shape) n q u)
+      ∙ inside-moved (l .n) (inputSize s) n input kernel (t .weights) (place t q u) (facts .inputs) h (range-alone q u small k))
 
   -- all of them, by the image alone
-  outputs-alone : imageOf (l .n) n (contentsOf op place l input kernel before) ≡ tabulate (outputOf (place t) (t .taps) image kernel) (outputSize s)
+  outputs-alone : imageOf (l .n) n (contentsOf op profile place l input kernel before) ≡ tabulate (outputOf profile (place t) (t .taps) image kernel) (outputSize s)
   outputs-alone =
-      ap (imageOf (l .n) n) (sym (run-leaves _ (λ s. outputOf (place s) (s .taps) input kernel) before s run))
+      ap (imageOf (l .n) n) (sym (run-leaves _ (λ s. outputOf profile (place s) (s .taps) input kernel) before s run))
       ∙ image-tabulate (l .n) (outputSize s) n _ (s .outputs) (facts .outputs) h
       ∙ tabulate-same _ _ (outputSize s) output-alone
 
@@ -95,22 +105,22 @@ module _ (op : Op) (pool : isPool op ≡ false) (place : Shape → ℕ → ℕ �
         (lengths-three _ _ _ (own-input op l input facts n h) (fits .0 .kernel-length ∙ sym (ap (λ (b : Bool). cond b (t .outputs) (t .weights)) pool)) (own-output op l input facts n h own before (fits .1) k))
         (run-taken _ _ _ s run .good .1)
 
-    alone : SummedAlone op place l input kernel before own n
+    alone : SummedAlone op profile place l input kernel before own n
     alone =
         record {
           answer = sym (run-answer _ t run-alone);
           outputs =
-              outputs-alone ∙ ap (tabulate (outputOf (place t) (t .taps) image kernel)) (sym (facts .one-outputs))
-              ∙ run-leaves _ (λ s. outputOf (place s) (s .taps) image kernel) own t run-alone;
+              outputs-alone ∙ ap (tabulate (outputOf profile (place t) (t .taps) image kernel)) (sym (facts .one-outputs))
+              ∙ run-leaves _ (λ s. outputOf profile (place s) (s .taps) image kernel) own t run-alone;
         }
 
 -- ---- the laws of an operator
-module _ (op : Op) (pool : isPool op ≡ false) (place : Shape → ℕ → ℕ → Place) (ranges : Ranges place) (stays : Stays op place) where
-  pub same-outputs : SameOutputs op place
+module _ (op : Op) (pool : isPool op ≡ false) (profile : Profile) (place : Shape → ℕ → ℕ → Place) (ranges : Ranges place) (stays : Stays op place) where
+  pub same-outputs : SameOutputs op profile place
   same-outputs l a b kernel before-a before-b n h za zb e =
-      outputs-alone op pool place ranges stays l a kernel before-a n h za
-      ∙ ap (λ (image : List Float). tabulate (outputOf (place (shapeOf op (oneImage l))) (shapeOf op (oneImage l) .taps) image kernel) (outputSize (shapeOf op l))) e
-      ∙ sym (outputs-alone op pool place ranges stays l b kernel before-b n h zb)
+      outputs-alone op pool profile place ranges stays l a kernel before-a n h za
+      ∙ ap (λ (image : List Float). tabulate (outputOf profile (place (shapeOf op (oneImage l))) (shapeOf op (oneImage l) .taps) image kernel) (outputSize (shapeOf op l))) e
+      ∙ sym (outputs-alone op pool profile place ranges stays l b kernel before-b n h zb)
 
-  pub image-alone : OutputsAlone op place
-  image-alone l input kernel before own n h z k = alone op pool place ranges stays l input kernel before n h z own k
+  pub image-alone : OutputsAlone op profile place
+  image-alone l input kernel before own n h z k = alone op pool profile place ranges stays l input kernel before n h z own k

@@ -11,6 +11,7 @@ use Rattle.layer.specs.declared.Layer.{Layer}
 use Rattle.layer.specs.Answers.{numbered}
 use Rattle.layer.specs.Limits.{rank}
 use Rattle.shape.specs.declared.Shape.{Shape}
+use Rattle.sums.specs.declared.Profile.{Profile}
 use Rattle.sums.specs.Taps.{Place}
 use Rattle.call.specs.Call.{answerOf, contentsOf}
 use Rattle.pooling.specs.Call.{maxPoolAnswer, maxPoolValues, maxPoolIndices}
@@ -23,14 +24,14 @@ abbrev pub SameImage : Layer → ℕ → List Float → List Float → Type 0
 SameImage l n a b = imageOf (l .n) n a ≡ imageOf (l .n) n b
 
 -- "For any two accepted calls of one operator with the same layer and kernel and the same image n, every output .. of image n is the same, whatever the other
--- images hold": a convolution of either kind, by its place function. The outputs may hold anything at entry.
-abbrev pub SameOutputs : Op → (Shape → ℕ → ℕ → Place) → Type 0
-SameOutputs op place =
+-- images hold", "read for two calls of one profile": a convolution of either kind, by its place function. The outputs may hold anything at entry.
+abbrev pub SameOutputs : Op → Profile → (Shape → ℕ → ℕ → Place) → Type 0
+SameOutputs op profile place =
     (l : Layer) (a b kernel before-a before-b : List Float) (n : ℕ) → n < l .n
     → answerOf op l a kernel (length before-a) .number ≡ 0
     → answerOf op l b kernel (length before-b) .number ≡ 0
     → SameImage l n a b
-    → imageOf (l .n) n (contentsOf op place l a kernel before-a) ≡ imageOf (l .n) n (contentsOf op place l b kernel before-b)
+    → imageOf (l .n) n (contentsOf op profile place l a kernel before-a) ≡ imageOf (l .n) n (contentsOf op profile place l b kernel before-b)
 
 -- "every output and index of image n is the same": max pooling
 pub record SamePooled (l : Layer) (a b values-a values-b : List Float) (indices-a indices-b : List ℤ) (n : ℕ) : Type 0 where
@@ -48,16 +49,16 @@ SamePooling =
 -- ---- a call, and the call on image n alone. The outputs of the latter are as long as one image of the former's, and hold `own` at entry.
 
 -- "These outputs and indices are also those of the call on image n alone, the same layer with N 1, which is accepted too": a convolution of either kind
-pub record SummedAlone (op : Op) (place : Shape → ℕ → ℕ → Place) (l : Layer) (input kernel before own : List Float) (n : ℕ) : Type 0 where
+pub record SummedAlone (op : Op) (profile : Profile) (place : Shape → ℕ → ℕ → Place) (l : Layer) (input kernel before own : List Float) (n : ℕ) : Type 0 where
   pub answer : answerOf op (oneImage l) (imageOf (l .n) n input) kernel (length own) ≡ numbered 0
-  pub outputs : imageOf (l .n) n (contentsOf op place l input kernel before) ≡ contentsOf op place (oneImage l) (imageOf (l .n) n input) kernel own
+  pub outputs : imageOf (l .n) n (contentsOf op profile place l input kernel before) ≡ contentsOf op profile place (oneImage l) (imageOf (l .n) n input) kernel own
 
-abbrev pub OutputsAlone : Op → (Shape → ℕ → ℕ → Place) → Type 0
-OutputsAlone op place =
+abbrev pub OutputsAlone : Op → Profile → (Shape → ℕ → ℕ → Place) → Type 0
+OutputsAlone op profile place =
     (l : Layer) (input kernel before own : List Float) (n : ℕ) → n < l .n
     → answerOf op l input kernel (length before) .number ≡ 0
     → length own ≡ length before / l .n
-    → SummedAlone op place l input kernel before own n
+    → SummedAlone op profile place l input kernel before own n
 
 -- "axis 0 or -R"; `negsuc m` is -(m + 1)
 abbrev pub FirstAxis : ℕ → ℤ → Type 0

@@ -14,6 +14,7 @@ use Rattle.shape.specs.declared.Judged.the-variants.{Accepted, Refused as NotAc
 use Rattle.shape.specs.Judge.{judged}
 use Rattle.tensor.specs.declared.Part.{Part}
 use Rattle.tensor.specs.declared.PeakAnswer.{PeakAnswer}
+use Rattle.sums.specs.declared.Profile.{Profile}
 use Rattle.sums.specs.Taps.{Place}
 use Rattle.call.specs.Call.{answerOf, contentsOf}
 use Rattle.pooling.specs.Call.{maxPoolAnswer, maxPoolValues, maxPoolIndices}
@@ -46,9 +47,9 @@ callAnswer op (Sheet l) input kernel output = answered (answerOf op l input kern
 callAnswer op (Refused number line) input kernel output = unread number line
 
 -- "Any number but 0 leaves all lent memory at its entry contents."
-unfoldable pub callContents : Op → (Shape → ℕ → ℕ → Place) → Read → List Float → List Float → List Float → List Float
-callContents op place (Sheet l) input kernel before = contentsOf op place l input kernel before
-callContents op place (Refused number line) input kernel before = before
+unfoldable pub callContents : Op → Profile → (Shape → ℕ → ℕ → Place) → Read → List Float → List Float → List Float → List Float
+callContents op profile place (Sheet l) input kernel before = contentsOf op profile place l input kernel before
+callContents op profile place (Refused number line) input kernel before = before
 
 unfoldable pub poolAnswer : Read → List Float → List Float → List ℤ → CallAnswer
 poolAnswer (Sheet l) input values indices = answered (maxPoolAnswer l input values indices)

@@ -11,6 +11,7 @@ use shape::Judged;
 use shape::judge;
 use sheet::read_sheet;
 use sheet::write_sheet;
+use sums::Profile;
 use tensor::find_peak;
 use tensor::plane_part;
 use transposed::transposed;
@@ -20,7 +21,8 @@ ghost use Rattle.layer.specs.declared.Op.the-variants.{Convolution, Transposed}
 ghost use Rattle.shape.specs.Judge.{judged};
 ghost use Rattle.tensor.specs.Peak.{peakOf};
 ghost use Rattle.tensor.specs.Plane.{partOf};
-ghost use Rattle.convolution.specs.Convolution.{placeOf as convolutionPlaces};
+ghost use Rattle.sums.specs.declared.Profile.the-variants.{Running, Halved};
+ghost use Rattle.places.specs.Places.{placeOf as convolutionPlaces};
 ghost use Rattle.transposed.specs.Transposed.{placeOf as transposedPlaces};
 ghost use Rattle.sheet.specs.Sheet.{readSheet};
 ghost use Rattle.report.specs.Output.{outputOf};
@@ -109,6 +111,24 @@ fn call_answer(a: Answer) -> CallAnswer
     }
 }
 
+// Convolution by either profile.
+fn convolve(
+    profile: Profile,
+    sheet: &[u8],
+    input: &[f32],
+    kernel: &[f32],
+    output: &mut [f32],
+) -> CallAnswer
+    ensures answer { λ r. ⌜ r ≡ callAnswer Convolution (readSheet (now (sheet .entry))) (now (input .entry)) (now (kernel .entry)) (length (now (output .entry))) ⌝ }
+    ensures contents { λ _. ⌜ now (output .exit) ≡ callContents Convolution profile convolutionPlaces (readSheet (now (sheet .entry))) (now (input .entry)) (now (kernel .entry)) (now (output .entry)) ⌝ }
+{
+    let read = read_sheet(sheet);
+    match read {
+        Read::Refused(number, line) => no_call(number, line),
+        Read::Sheet(layer) => call_answer(convolution(profile, layer, input, kernel, output)),
+    }
+}
+
 #[no_mangle]
 pub extern "C" fn koza_convolution(
     sheet: &[u8],
@@ -117,13 +137,22 @@ pub extern "C" fn koza_convolution(
     output: &mut [f32],
 ) -> CallAnswer
     ensures answer { λ r. ⌜ r ≡ callAnswer Convolution (readSheet (now (sheet .entry))) (now (input .entry)) (now (kernel .entry)) (length (now (output .entry))) ⌝ }
-    ensures contents { λ _. ⌜ now (output .exit) ≡ callContents Convolution convolutionPlaces (readSheet (now (sheet .entry))) (now (input .entry)) (now (kernel .entry)) (now (output .entry)) ⌝ }
+    ensures contents { λ _. ⌜ now (output .exit) ≡ callContents Convolution Running convolutionPlaces (readSheet (now (sheet .entry))) (now (input .entry)) (now (kernel .entry)) (now (output .entry)) ⌝ }
 {
-    let read = read_sheet(sheet);
-    match read {
-        Read::Refused(number, line) => no_call(number, line),
-        Read::Sheet(layer) => call_answer(convolution(layer, input, kernel, output)),
-    }
+    convolve(Profile::Running, sheet, input, kernel, output)
+}
+
+#[no_mangle]
+pub extern "C" fn koza_convolution_halved(
+    sheet: &[u8],
+    input: &[f32],
+    kernel: &[f32],
+    output: &mut [f32],
+) -> CallAnswer
+    ensures answer { λ r. ⌜ r ≡ callAnswer Convolution (readSheet (now (sheet .entry))) (now (input .entry)) (now (kernel .entry)) (length (now (output .entry))) ⌝ }
+    ensures contents { λ _. ⌜ now (output .exit) ≡ callContents Convolution Halved convolutionPlaces (readSheet (now (sheet .entry))) (now (input .entry)) (now (kernel .entry)) (now (output .entry)) ⌝ }
+{
+    convolve(Profile::Halved, sheet, input, kernel, output)
 }
 
 #[no_mangle]
@@ -134,7 +163,7 @@ pub extern "C" fn koza_transposed(
     output: &mut [f32],
 ) -> CallAnswer
     ensures answer { λ r. ⌜ r ≡ callAnswer Transposed (readSheet (now (sheet .entry))) (now (input .entry)) (now (kernel .entry)) (length (now (output .entry))) ⌝ }
-    ensures contents { λ _. ⌜ now (output .exit) ≡ callContents Transposed transposedPlaces (readSheet (now (sheet .entry))) (now (input .entry)) (now (kernel .entry)) (now (output .entry)) ⌝ }
+    ensures contents { λ _. ⌜ now (output .exit) ≡ callContents Transposed Running transposedPlaces (readSheet (now (sheet .entry))) (now (input .entry)) (now (kernel .entry)) (now (output .entry)) ⌝ }
 {
     let read = read_sheet(sheet);
     match read {

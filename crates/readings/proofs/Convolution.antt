@@ -14,8 +14,9 @@ use Rattle.shape.specs.declared.Shape.{Shape}
 use Rattle.shape.specs.Facts.{Grouped}
 use Rattle.shape.specs.Volumes.{kernelRows}
 use Rattle.tensor.specs.Table.{plusZero}
+use Rattle.sums.specs.declared.Profile.the-variants.{Running}
 use Rattle.sums.specs.Taps.{Place, outside, at, tapAt, addTap, outputOf}
-use Rattle.convolution.specs.Convolution.{placed, placeOf}
+use Rattle.places.specs.Places.{placed, placeOf}
 use Rattle.readings.proofs.Shared.{outputNumber, tapNumber, inputNumber, flat-plane, onAxes, tap-parts, lies-inside, lies-outside, rising, nested-sum}
 
 -- "Tap ky lies at input row y·s - begin + ky·d": q is that row, or depth or column, of the input
@@ -72,7 +73,7 @@ module _ (s : Shape) (n : ℕ) {g o z y x : ℕ} (h : Grouped s) (hg : g < s .g)
 
 -- ---- "output (n, group g, o, z, y, x) starts at +0 and adds input·weight for each tap, by i, then kz, then ky, then kx, all rising"
 pub output-reading : (s : Shape) (n : ℕ) {g o z y x : ℕ} → Grouped s → g < s .g → o < s .o → z < s .z .out → y < s .y .out → x < s .x .out → (input kernel : List Float)
-    → outputOf (placeOf s) (s .taps) input kernel (outputNumber s n g o z y x)
+    → outputOf Running (placeOf s) (s .taps) input kernel (outputNumber s n g o z y x)
     ≡ rising (λ i. rising (λ kz. rising (λ ky. rising (λ kx sum. addTap sum (tapAt input kernel (tapPlace s n g o z y x i kz ky kx))) (s .x .kernel)) (s .y .kernel)) (s .z .kernel)) (s .i) plusZero
 output-reading s n {g} {o} {z} {y} {x} h hg ho hz hy hx input kernel =
     nested-sum (placeOf s) s h input kernel (outputNumber s n g o z y x) (tapPlace s n g o z y x)

@@ -18,6 +18,7 @@ use Rattle.shape.specs.Volumes.{inputRows, kernelRows, outRows, onPlane, inputP
 use Rattle.shape.proofs.Volumes.{rows-at, plane-at}
 use Rattle.tensor.specs.Table.{plusZero}
 use Rattle.tensor.specs.Places.{flatPlace}
+use Rattle.sums.specs.declared.Profile.the-variants.{Running}
 use Rattle.sums.specs.Taps.{Place, Factors, tapAt, addTap, sumFrom, tapsOf, outputOf}
 use Rattle.sums.proofs.Sums.{sum-same, sum-rows}
 use Rattle.call.proofs.Planes.{line-flat}
@@ -174,7 +175,7 @@ nested-depths taps c d b a sum =
 -- output j of a convolution: `tap` tells the places of its taps by i, kz, ky and kx
 pub nested-sum : (place : ℕ → ℕ → Place) (s : Shape) → Grouped s → (input kernel : List Float) (j : ℕ) (tap : ℕ → ℕ → ℕ → ℕ → Place)
     → ((i kz ky kx : ℕ) → kz < s .z .kernel → ky < s .y .kernel → kx < s .x .kernel → place j (tapNumber s i kz ky kx) ≡ tap i kz ky kx)
-    → outputOf place (s .taps) input kernel j
+    → outputOf Running place (s .taps) input kernel j
     ≡ rising (λ i. rising (λ kz. rising (λ ky. rising (λ kx sum. addTap sum (tapAt input kernel (tap i kz ky kx))) (s .x .kernel)) (s .y .kernel)) (s .z .kernel)) (s .i) plusZero
 unfolding outputOf kernelRows
 nested-sum place s h input kernel j tap e =

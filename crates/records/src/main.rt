@@ -1,7 +1,7 @@
 // Runs what no layer sheet can say, and the plane picker. Cases are read from standard input; a line is printed for each.
 // A case of a record has 15 lines: its name, the 12 lines of a layer sheet, the field of the layer that is then changed, as `z.input=2`, and how many bytes are
-// lent to the writer; 16 if the sheet has a version line. All three operators are called with the layer, over an input (2), a kernel (3) and outputs of one
-// element, and the layer is written as a sheet.
+// lent to the writer; 16 if the sheet has a version line. All three operators are called with the layer, convolution by both profiles, over an input (2), a kernel
+// (3) and outputs of one element, and the layer is written as a sheet.
 // A case of a plane has six: its name, the tensor's sizes, its length, the image, the channel and the depth. The tensor's elements are their own places.
 // The outputs and the buffer hold marks before the calls: `kept` says that they still do.
 use cases::after_line;
@@ -17,6 +17,7 @@ use lines::Read;
 use pooling::max_pool;
 use sheet::read_sheet;
 use sheet::write_sheet;
+use sums::Profile;
 use tensor::pick_plane;
 use text::Items;
 use text::Number;
@@ -105,12 +106,12 @@ fn print_output(number: u32, output: f32) {
     print_value(output);
 }
 
-fn run_convolution(layer: Layer) {
+fn run_convolution(name: &[u8], profile: Profile, layer: Layer) {
     let input = [2.0f32];
     let kernel = [3.0f32];
     let mut output = [MARK];
-    let answer = convolution(layer, &input, &kernel, &mut output);
-    print(b" convolution=");
+    let answer = convolution(profile, layer, &input, &kernel, &mut output);
+    print(name);
     print_output(answer.number, output[0]);
 }
 
@@ -313,7 +314,8 @@ fn changed(l: Layer, change: &[u8]) -> Layer {
 fn run_layer(layer: Layer, room: usize)
     requires { ⌜ room ≤ 480 ⌝ }
 {
-    run_convolution(layer);
+    run_convolution(b" convolution=", Profile::Running, layer);
+    run_convolution(b" halved=", Profile::Halved, layer);
     run_transposed(layer);
     run_max_pool(layer);
     run_write(layer, room);

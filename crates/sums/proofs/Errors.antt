@@ -1,5 +1,6 @@
--- The rounding errors of a running sum add up to (n - 1) * (n + 2) / 2: step j adds at most j, and step 1 adds none.
-use mathlib.Core.Path.{_≡_, sym, ap, _∙_}
+-- The rounding errors of a sum of n taps add up to at most (n - 1) * (n + 2) / 2: an addition that makes a sum of j taps adds at most j, and the first tap adds
+-- none. By induction on n.
+use mathlib.Core.Path.{_≡_, refl, sym, ap, _∙_}
 use Prim.Native.Nat.{ℕ, zero, suc, _+_, _-_, _*_, _/_, _≤_}
 use native.Mathlib.Nat.{mul-add, suc-mul, mul-div-cancel, zero-lt-suc}
 use native.Mathlib.Omega.{arith}
@@ -9,17 +10,29 @@ errors zero = 0
 errors (suc zero) = 0
 errors (suc (suc n)) = errors (suc n) + suc (suc n)
 
--- a step that rounds adds at most its number; the first does not round
-pub errors-more : (n d : ℕ) → (n ≡ 0 → d ≡ 0) → d ≤ suc n → d + errors n ≤ errors (suc n)
+two-errors : (a b n : ℕ) → n ≡ a + b → errors (suc a) + errors (suc b) + (a + b + 2) ≤ errors (suc (suc n))
 unfolding errors
-errors-more zero d z h = let e : d ≡ 0 = z (omega arith) in omega arith
-errors-more (suc n) d z h = omega arith
+two-errors a zero n e = let f : errors (suc n) ≡ errors (suc a) = ap (λ (x : ℕ). errors (suc x)) {x = n} {y = a} (omega arith) in omega arith
+two-errors a (suc b) zero e = absurd (omega arith)
+two-errors a (suc b) (suc n) e = omega (arith, two-errors a b n (omega arith))
 
-pub errors-le : (n m : ℕ) → n ≤ m → errors n ≤ n * m
+-- an addition that makes a sum of n taps from sums of a and b taps moves it by d, at most n; after no tap it does not round
+pub errors-plus : (a b n d : ℕ) → n ≡ a + b → 1 ≤ b → (a ≡ 0 → d ≡ 0) → d ≤ n → d + (errors a + errors b) ≤ errors n
 unfolding errors
-errors-le zero m h = omega arith
-errors-le (suc zero) m h = omega arith
-errors-le (suc (suc n)) m h = let a : errors (suc n) ≤ suc n * m = errors-le (suc n) m (omega arith) in omega (arith, suc-mul (suc n) m)
+errors-plus zero b n d e s z h =
+    let o : d ≡ 0 = z refl in
+    let f : errors n ≡ errors b = ap errors {x = n} {y = b} (omega arith) in
+    omega arith
+errors-plus (suc a) zero n d e s z h = absurd (omega arith)
+errors-plus (suc a) (suc b) zero d e s z h = absurd (omega arith)
+errors-plus (suc a) (suc b) (suc zero) d e s z h = absurd (omega arith)
+errors-plus (suc a) (suc b) (suc (suc n)) d e s z h = omega (arith, two-errors a b n (omega arith))
+
+pub errors-le : (n : ℕ) → 1 ≤ n → n ≤ 4096 → errors n + 4096 ≤ n * 4096
+unfolding errors
+errors-le zero s h = absurd (omega arith)
+errors-le (suc zero) s h = omega arith
+errors-le (suc (suc n)) s h = omega (arith, errors-le (suc n) (omega arith) (omega arith))
 
 equal-times : (a b c d : ℕ) → a ≡ b → c ≡ d → a * c ≡ b * d
 equal-times a b c d p q = cc

@@ -7,14 +7,13 @@ use native.Mathlib.Omega.{arith}
 use lib.ListN.{length}
 use lib.Ieee.{Float}
 use Rattle.tensor.specs.Table.{read, plusZero}
-use Rattle.sums.specs.Taps.{Place, missing, outside, at, none, tapAt, addTap, sumFrom, InRange}
+use Rattle.sums.specs.Taps.{Place, missing, outside, at, none, tapAt, addTap, sumFrom, insideOnly, InRange}
 use Rattle.sums.specs.Finite.{AllOk}
 use Rattle.sums.specs.Zero.{FromZero}
-use Rattle.sums.specs.Inside.{insideOnly}
 use Rattle.sums.proofs.Finite.{element-finite}
 use Rattle.sums.proofs.Outside.{zero-from-zero, sum-from-zero, add-outside}
 
-none-same : (sum : Float) → sum ≡ addTap sum none
+pub none-same : (sum : Float) → sum ≡ addTap sum none
 unfolding addTap
 none-same sum = refl
 

@@ -61,8 +61,8 @@ distance-is a b = let n = neg-parts b in abs-of (a -ℤ b) (P a + N b) (P b + N 
 pub abs-plus : (a b : ℤ) → natAbs (a +ℤ b) ≤ natAbs a + natAbs b
 abs-plus a b = omega (arith, abs-sum a b, abs-is a, abs-is b)
 
-pub distance-plus : (a b c : ℤ) → distance (a +ℤ c) (b +ℤ c) ≡ distance a b
-distance-plus a b c = omega (arith, distance-is (a +ℤ c) (b +ℤ c), distance-is a b, plus-parts a c, plus-parts b c)
+pub distance-plus : (a b c d : ℤ) → distance (a +ℤ c) (b +ℤ d) ≤ distance a b + distance c d
+distance-plus a b c d = omega (arith, distance-is (a +ℤ c) (b +ℤ d), distance-is a b, distance-is c d, plus-parts a c, plus-parts b d)
 
 pub distance-trans : (a b c : ℤ) → distance a c ≤ distance a b + distance b c
 distance-trans a b c = omega (arith, distance-is a b, distance-is b c, distance-is a c)

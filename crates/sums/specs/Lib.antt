@@ -3,4 +3,3 @@ pub mod Taps
 pub mod Finite
 pub mod Whole
 pub mod Zero
-pub mod Inside

@@ -3,13 +3,15 @@
 use mathlib.Core.Path.{_≡_}
 use mathlib.Core.List.{List}
 use mathlib.Core.Bool.{Bool, false, _&&_, cond}
-use Prim.Native.Nat.{ℕ, zero, suc, _+_, _-_, _*_, _/_, _%_, _≤_, _<_}
+use Prim.Native.Nat.{ℕ, zero, suc, _+_, _-_, _*_, _/_, _%_, _^_, _≤_, _<_}
 use lib.Dec.{T, leb, eqb}
 use lib.IntN.{ℤ, pos, negℤ, natAbs, _+ℤ_, _-ℤ_, _*ℤ_}
 use lib.ListN.{length}
 use lib.Ieee.{Float, nan, inf, fin, up, down}
 use Rattle.tensor.specs.Table.{read}
 use Rattle.sums.specs.Taps.{Factors, none, pair}
+use Rattle.sums.specs.declared.Profile.{Profile}
+use Rattle.sums.specs.declared.Profile.the-variants.{Halved}
 
 -- "and an element is a whole number if its value is one, -0 being 0": `fin s m e` is the number ± m · 2^e, and 2^e is up e / down e.
 unfoldable pub isWhole : Float → Bool
@@ -53,10 +55,12 @@ small x = isWhole x && leb (natAbs (value x)) 4096
 
 -- Demand 3 for one output, which the call leaves as r. "K is I·KZ·KY·KX, also where fewer taps reach an output": k counts the taps that take no part too.
 -- The output is a whole number; its distance from the exact sum is at most (K - 1)(K + 2)/2; where the magnitudes total at most 16,777,216 it is the
--- exact sum.
-pub record WholeSum (taps : ℕ → Factors) (k : ℕ) (r : Float) : Type 0 where
+-- exact sum. In a halved sum the distance is "also, besides demand 3's bound, at most K times the smallest h with 2^h >= K" (C-17): at most K·h with each such
+-- h, so with the smallest.
+pub record WholeSum (profile : Profile) (taps : ℕ → Factors) (k : ℕ) (r : Float) : Type 0 where
   pub whole : T (isWhole r)
   pub near : distance (value r) (exactSum taps k) ≤ (k - 1) * (k + 2) / 2
+  pub nearer : profile ≡ Halved → (h : ℕ) → k ≤ 2 ^ h → distance (value r) (exactSum taps k) ≤ k * h
   pub same : magnitudes taps k ≤ 16777216 → value r ≡ exactSum taps k
 
 -- ---- demand 3 for a call
@@ -66,5 +70,5 @@ abbrev pub AllSmall : List Float → Type 0
 AllSmall l = (i : ℕ) → i < length l → T (small (read l i))
 
 -- what it promises of each of the n outputs, over the same k taps of which the output is the sum
-abbrev pub AllWhole : (ℕ → ℕ → Factors) → ℕ → ℕ → List Float → Type 0
-AllWhole taps k n output = (j : ℕ) → j < n → WholeSum (taps j) k (read output j)
+abbrev pub AllWhole : Profile → (ℕ → ℕ → Factors) → ℕ → ℕ → List Float → Type 0
+AllWhole profile taps k n output = (j : ℕ) → j < n → WholeSum profile (taps j) k (read output j)

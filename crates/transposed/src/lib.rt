@@ -21,6 +21,7 @@ ghost use lib.ListN.{length};
 ghost use Rattle.shape.specs.Facts.{Grouped};
 ghost use Rattle.shape.specs.Volumes.{kernelRows};
 ghost use Rattle.tensor.specs.Table.{tabulate};
+ghost use Rattle.sums.specs.declared.Profile.the-variants.{Running};
 ghost use Rattle.sums.specs.Taps.{tapAt, outputOf};
 ghost use Rattle.rows.specs.Rows.{Summed};
 ghost use Rattle.call.specs.Call.{answerOf, contentsOf, WholeOutputs, FiniteOutputs};
@@ -164,7 +165,7 @@ fn next_row(at: KernelRow, rows: usize) -> KernelRow
 fn fill_line(s: Shape, input: &[f32], kernel: &[f32], line: usize, out: &mut [f32])
     requires { ⌜ Fitting s (now input) (now kernel) ⌝ }
     requires { ⌜ (line * s .x .out + s .x .out ≤ s .outputs) × (length (now out) ≡ s .x .out) ⌝ }
-    ensures { λ _. ⌜ now (out .exit) ≡ tabulate (λ x. outputOf (placeOf s) (s .taps) (now (input .entry)) (now (kernel .entry)) (line * s .x .out + x)) (s .x .out) ⌝ }
+    ensures { λ _. ⌜ now (out .exit) ≡ tabulate (λ x. outputOf Running (placeOf s) (s .taps) (now (input .entry)) (now (kernel .entry)) (line * s .x .out + x)) (s .x .out) ⌝ }
 {
     start(out, kernel[0]);
     let f = first_tap(s, line);
@@ -184,7 +185,7 @@ fn fill_line(s: Shape, input: &[f32], kernel: &[f32], line: usize, out: &mut [f3
 fn fill(s: Shape, input: &[f32], kernel: &[f32], output: &mut [f32])
     requires { ⌜ Fitting s (now input) (now kernel) ⌝ }
     requires { ⌜ length (now output) ≡ s .outputs ⌝ }
-    ensures { λ _. ⌜ now (output .exit) ≡ tabulate (outputOf (placeOf s) (s .taps) (now (input .entry)) (now (kernel .entry))) (s .outputs) ⌝ }
+    ensures { λ _. ⌜ now (output .exit) ≡ tabulate (outputOf Running (placeOf s) (s .taps) (now (input .entry)) (now (kernel .entry))) (s .outputs) ⌝ }
 {
     let width = s.x.out as usize;
     let mut line = 0;
@@ -200,8 +201,8 @@ fn fill(s: Shape, input: &[f32], kernel: &[f32], output: &mut [f32])
 // Transposed convolution: checks 1 to 9, and only then every output. No call is asked to be valid: each is answered.
 pub fn transposed(layer: Layer, input: &[f32], kernel: &[f32], output: &mut [f32]) -> Answer
     ensures answer { λ r. ⌜ r ≡ answerOf Op.Transposed layer (now (input .entry)) (now (kernel .entry)) (length (now (output .entry))) ⌝ }
-    ensures contents { λ _. ⌜ now (output .exit) ≡ contentsOf Op.Transposed placeOf layer (now (input .entry)) (now (kernel .entry)) (now (output .entry)) ⌝ }
-    ensures whole { λ r. ⌜ (r .number ≡ 0 → WholeOutputs Op.Transposed placeOf layer (now (input .entry)) (now (kernel .entry)) (now (output .exit))) ⌝ }
+    ensures contents { λ _. ⌜ now (output .exit) ≡ contentsOf Op.Transposed Running placeOf layer (now (input .entry)) (now (kernel .entry)) (now (output .entry)) ⌝ }
+    ensures whole { λ r. ⌜ (r .number ≡ 0 → WholeOutputs Op.Transposed Running placeOf layer (now (input .entry)) (now (kernel .entry)) (now (output .exit))) ⌝ }
     ensures finite { λ r. ⌜ (r .number ≡ 0 → FiniteOutputs (now (output .exit))) ⌝ }
 {
     let verdict = check_sum(Op::Transposed, layer, input, kernel, output.len());

@@ -1,19 +1,19 @@
 -- Invariant: every output has the taps of the first k depths of the range. One turn is one depth more for each; the depths outside the range have no tap inside.
 use mathlib.Core.Path.{_≡_}
 use mathlib.Core.Bool.{true}
-use Prim.Native.Nat.{ℕ, _+_, _*_, _-_, _≤_, _<_}
+use Prim.Native.Nat.{_+_, _*_, _-_, _≤_, _<_}
 use native.Mathlib.Nat.{zero-mul}
 use native.Mathlib.Omega.{arith}
-use denote.Ref.{now}
 use lib.ListN.{length}
 use Rattle.taps.specs.Taps.{tapInside}
 use Rattle.taps.proofs.Exact.{exactly-in}
 use Rattle.rows.specs.Rows.{Summed}
 use Rattle.rows.proofs.Rows.{summed-start}
 use Rattle.rows.proofs.Ranges.{blocks-none, range-more, range-all}
-use Rattle.convolution.specs.Inside.{planeTaps, channelTaps, depthTaps}
+use Rattle.places.specs.Lines.{planeTaps}
+use Rattle.places.proofs.Taps.{volume-is, depth-outside}
+use Rattle.convolution.specs.Inside.{channelTaps, depthTaps}
 use Rattle.convolution.proofs.Runs.{columns-within}
-use Rattle.convolution.proofs.Inside.{volume-is, depth-outside}
 use Rattle.convolution.proofs.add_depths.Statement.{statement}
 use Rattle.convolution.proofs.add_depths.Tie as tie
 

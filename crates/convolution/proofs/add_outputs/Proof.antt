@@ -1,5 +1,4 @@
 -- Invariant: the first p outputs have all their taps. One turn is a part of the row more.
-use borrow.Author.Needs.{needs}
 use mathlib.Core.Path.{_≡_, refl}
 use Prim.Native.Nat.{_-_, _≤_, _<_}
 use native.Mathlib.Omega.{arith}

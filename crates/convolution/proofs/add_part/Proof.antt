@@ -1,7 +1,4 @@
 -- Outputs that are alike and have no tap along x have none; else there is one.
-use mathlib.Core.Path.{_≡_}
-use mathlib.Core.Bool.{Bool, true, false}
-use Prim.Native.Nat.{_+_}
 use native.Mathlib.Omega.{arith}
 use Rattle.convolution.proofs.Inside.{part-away}
 use Rattle.convolution.proofs.add_part.Statement.{statement}

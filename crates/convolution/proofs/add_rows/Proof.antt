@@ -1,19 +1,18 @@
 -- Invariant: every output has the taps of the first k rows of the range. One turn is one row more for each; the rows outside the range have no tap inside.
 use mathlib.Core.Path.{_≡_}
 use mathlib.Core.Bool.{true}
-use Prim.Native.Nat.{ℕ, _+_, _*_, _-_, _≤_, _<_}
+use Prim.Native.Nat.{_+_, _*_, _-_, _≤_, _<_}
 use native.Mathlib.Nat.{zero-mul}
 use native.Mathlib.Omega.{arith}
-use denote.Ref.{now}
 use lib.ListN.{length}
 use Rattle.taps.specs.Taps.{tapInside}
 use Rattle.taps.proofs.Exact.{exactly-in}
 use Rattle.rows.specs.Rows.{Summed}
 use Rattle.rows.proofs.Rows.{summed-start}
 use Rattle.rows.proofs.Ranges.{range-more, range-all}
+use Rattle.places.proofs.Taps.{row-outside}
 use Rattle.convolution.specs.Inside.{depthTaps}
 use Rattle.convolution.proofs.Runs.{columns-within}
-use Rattle.convolution.proofs.Inside.{row-outside}
 use Rattle.convolution.proofs.add_rows.Statement.{statement}
 use Rattle.convolution.proofs.add_rows.Tie as tie
 

@@ -6,6 +6,7 @@ use native.Mathlib.Omega.{arith}
 use lib.ListN.{length}
 use Rattle.tensor.specs.Table.{tabulate}
 use Rattle.tensor.proofs.Table.{filled-all}
+use Rattle.sums.specs.declared.Profile.the-variants.{Running}
 use Rattle.sums.specs.Taps.{outputOf}
 use Rattle.tensor.proofs.Lines.{LineRoom, line-length, Lines, lines-none, lines-more}
 use Rattle.call.proofs.Lines.{output-room}
@@ -14,7 +15,7 @@ use Rattle.transposed.proofs.fill.Statement.{statement}
 use Rattle.transposed.proofs.fill.Tie as tie
 
 abbrev Inv-loop : tie.InvT-loop
-Inv-loop s input kernel output₀ width line₀ j₀ output line j = Lines (s .x .out) (outputOf (placeOf s) (s .taps) input kernel) (length output₀) output line j
+Inv-loop s input kernel output₀ width line₀ j₀ output line j = Lines (s .x .out) (outputOf Running (placeOf s) (s .taps) input kernel) (length output₀) output line j
 
 abbrev μ-loop : tie.MeasureT-loop
 μ-loop s input kernel output₀ width line₀ j₀ output line j = length output - j

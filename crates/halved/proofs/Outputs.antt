@@ -1,0 +1,177 @@
+-- The taps of an output by its position along each axis: those that the code finds are those of the output's number (`taps-are-inside`), and their places lie in the
+-- tensors (`tap-bounds`).
+use mathlib.Core.Path.{_≡_, refl, sym, ap, ap₂, _∙_}
+use mathlib.Core.List.{List}
+use Prim.Native.Nat.{ℕ, _+_, _*_, _/_, _%_, _≤_, _<_}
+use native.Mathlib.Nat.{mul-assoc, mul-pos, le-of-eq, le-mul-of-pos-right, mod-lt, div-add-mod'}
+use native.Mathlib.Omega.{arith}
+use lib.ListN.{length}
+use lib.Ieee.{Float}
+use Rattle.layer.proofs.Places.{place-within, div-within}
+use Rattle.taps.specs.declared.Tap.{Tap}
+use Rattle.taps.specs.declared.Tap.the-variants.{Outside, At}
+use Rattle.taps.specs.Joins.{forward, both}
+use Rattle.taps.proofs.Exact.{both-outer, both-inner, both-at}
+use Rattle.shape.specs.declared.Shape.{Shape}
+use Rattle.shape.specs.Volumes.{inputRows, kernelRows}
+use Rattle.shape.proofs.Volumes.{input-rows-are, kernel-rows-are}
+use Rattle.tensor.specs.Table.{read, plusZero}
+use Rattle.sums.specs.declared.Profile.the-variants.{Halved}
+use Rattle.sums.specs.Taps.{Place, pair, tapAt, addTap, halved, insideOnly, outputOf}
+use Rattle.sums.proofs.Inside.{none-same}
+use Rattle.sums.proofs.Halved.{halved-same}
+use Rattle.sums.proofs.Outputs.{output-halved}
+use Rattle.call.specs.Fitting.{Fitting}
+use Rattle.call.proofs.Planes.{line-flat, taps-are}
+use Rattle.places.specs.declared.Line.{Line}
+use Rattle.places.specs.Places.{placed, placeOf}
+use Rattle.places.specs.Lines.{insideTaps, LineOf}
+use Rattle.places.proofs.Taps.{row-number-is, tapNumber, place-at, placed-none, placed-pair}
+use Rattle.places.proofs.Bounds.{line-bounds}
+use Rattle.halved.specs.declared.Output.{Output}
+use Rattle.halved.specs.Outputs.{outputAt, rowOfTap, depthOfTap, channelOfTap, liesOn, outputTaps, Held}
+
+-- ---- what a tap adds to +0
+module _ (input kernel : List Float) (o : Output) (t : ℕ) where
+  abbrev z : Tap
+  z = forward (o .z) (o .depth) (depthOfTap o t % o .z .kernel)
+
+  abbrev y : Tap
+  y = forward (o .y) (o .row) (rowOfTap o t % o .y .kernel)
+
+  abbrev x : Tap
+  x = forward (o .x) (o .column) (t % o .x .kernel)
+
+  -- +0 where it lies outside along one axis
+  nothing : liesOn o t ≡ Outside → plusZero ≡ addTap plusZero (outputTaps input kernel o t)
+  nothing e = none-same plusZero ∙ ap (addTap plusZero) (sym (placed-none input kernel _ _ _ e))
+
+  pub outside-z : z ≡ Outside → plusZero ≡ addTap plusZero (outputTaps input kernel o t)
+  outside-z e = nothing (rw (e, both-outer, both-outer))
+
+  pub outside-y : y ≡ Outside → plusZero ≡ addTap plusZero (outputTaps input kernel o t)
+  outside-y e = nothing (rw (e, both-inner, both-outer))
+
+  pub outside-x : x ≡ Outside → plusZero ≡ addTap plusZero (outputTaps input kernel o t)
+  outside-x e = nothing (rw (e, both-inner))
+
+  -- its product where it lies inside along every axis
+  pub inside : {iz iy ix : ℕ} → z ≡ At iz → y ≡ At iy → x ≡ At ix
+      → outputTaps input kernel o t
+      ≡ pair (read input ((((o .plane + channelOfTap o t) * o .z .input + iz) * o .y .input + iy) * o .x .input + ix)) (read kernel (o .weight + t))
+  inside {iz} {iy} {ix} ez ey ex =
+      placed-pair input kernel _ _ ((iz * o .y .input + iy) * o .x .input + ix) (liesOn o t) (rw (ez, ey, ex, both-at, both-at))
+      ∙ ap (λ (n : ℕ). pair (read input n) (read kernel (o .weight + t))) (flat (o .plane + channelOfTap o t) iz iy ix)
+    where
+      flat : (p a b c : ℕ) → p * (o .z .input * o .y .input * o .x .input) + ((a * o .y .input + b) * o .x .input + c) ≡ ((p * o .z .input + a) * o .y .input + b) * o .x .input + c
+      flat p a b c =
+          line-flat p (o .z .input * o .y .input) (o .x .input) (a * o .y .input + b) c
+          ∙ ap (λ (n : ℕ). n * o .x .input + c) (line-flat p (o .z .input) (o .y .input) a b)
+
+-- ---- its place lies in the input, and every number on the way there fits
+pub record TapBounds (o : Output) (t inputs iz iy ix : ℕ) : Type 0 where
+  pub plane-max : o .plane + channelOfTap o t ≤ 16777216
+  pub depth-max : (o .plane + channelOfTap o t) * o .z .input + iz ≤ 16777216
+  pub row-max : ((o .plane + channelOfTap o t) * o .z .input + iz) * o .y .input + iy ≤ 16777216
+  pub place : (((o .plane + channelOfTap o t) * o .z .input + iz) * o .y .input + iy) * o .x .input + ix < inputs
+
+pub tap-bounds : (o : Output) {t inputs weights iz iy ix : ℕ} → Held o (t + 1) inputs weights → iz < o .z .input → iy < o .y .input → ix < o .x .input → TapBounds o t inputs iz iy ix
+tap-bounds o {t} h lz ly lx =
+    let a = h .plane t (omega arith) in
+    let d = place-within a lz in
+    let r = place-within d ly in
+    let p = place-within r lx in
+    let z-1 : 1 ≤ o .z .input = omega arith in
+    let y-1 : 1 ≤ o .y .input = omega arith in
+    let x-1 : 1 ≤ o .x .input = omega arith in
+    let m = le-mul-of-pos-right (h .planes) z-1 in
+    let n = le-mul-of-pos-right (h .planes * o .z .input) y-1 in
+    let q = le-mul-of-pos-right (h .planes * o .z .input * o .y .input) x-1 in
+    record {
+      plane-max = omega (arith, h .inputs-in, h .inputs-max);
+      depth-max = omega (arith, h .inputs-in, h .inputs-max);
+      row-max = omega (arith, h .inputs-in, h .inputs-max);
+      place = omega (arith, h .inputs-in);
+    }
+
+-- fewer taps
+pub held-fewer : (o : Output) (taps fewer inputs weights : ℕ) → fewer ≤ taps → Held o taps inputs weights → Held o fewer inputs weights
+held-fewer o taps fewer inputs weights l h =
+    record {
+      planes = h .planes;
+      z-kernel = h .z-kernel;
+      y-kernel = h .y-kernel;
+      x-kernel = h .x-kernel;
+      plane = λ t k. h .plane t (omega arith);
+      inputs-in = h .inputs-in;
+      weights-in = omega (arith, h .weights-in);
+      inputs-max = h .inputs-max;
+      weights-max = h .weights-max;
+    }
+
+-- ---- an output of a line
+placed-same : {a b v w : ℕ} {y z : Tap} → a ≡ b → v ≡ w → y ≡ z → placed a v y ≡ placed b w z
+placed-same e g k = rw (e, g, k)
+
+module _ (s : Shape) (input kernel : List Float) (h : Fitting s input kernel) (f : Line) (g : LineOf s f) where
+  taps-by-axes : s .taps ≡ s .i * s .z .kernel * s .y .kernel * s .x .kernel
+  taps-by-axes =
+      taps-are s (h .shape)
+      ∙ sym (mul-assoc (s .i) (kernelRows s) (s .x .kernel))
+      ∙ ap (λ (n : ℕ). n * s .x .kernel) (ap (λ (n : ℕ). s .i * n) (kernel-rows-are s) ∙ sym (mul-assoc (s .i) (s .z .kernel) (s .y .kernel)))
+
+  channel-below : (t : ℕ) → t < s .taps → t / s .x .kernel / s .y .kernel / s .z .kernel < s .i
+  channel-below t l =
+      div-within (s .i) (s .z .kernel) (div-within (s .i * s .z .kernel) (s .y .kernel) (div-within (s .i * s .z .kernel * s .y .kernel) (s .x .kernel) (rw taps-by-axes at l)))
+
+  pub taps-1 : 1 ≤ s .taps
+  taps-1 =
+      let a = h .shape .sound in
+      rw taps-by-axes (mul-pos (mul-pos (mul-pos (h .shape .i-1) (a .z .kernel-1)) (a .y .kernel-1)) (a .x .kernel-1))
+
+  -- its taps lie in the tensors
+  pub held : (p : ℕ) → Held (outputAt s f p) (s .taps) (length input) (length kernel)
+  held p =
+      let a = h .shape .sound in
+      let b = line-bounds s (f .number) (h .shape) (g .within) refl in
+      record {
+        planes = s .n * s .c;
+        z-kernel = a .z .kernel-1;
+        y-kernel = a .y .kernel-1;
+        x-kernel = a .x .kernel-1;
+        plane = λ t l. omega (arith, b .plane, g .plane-is, channel-below t l);
+        inputs-in =
+            le-of-eq (ap (λ (n : ℕ). n * s .x .input) (mul-assoc (s .n * s .c) (s .z .input) (s .y .input) ∙ ap (λ (n : ℕ). s .n * s .c * n) (sym (input-rows-are s)))
+            ∙ sym (h .input-length ∙ a .inputs-is));
+        weights-in = omega (arith, b .weight, g .weight-is, h .kernel-length);
+        inputs-max = omega (arith, h .input-length, a .inputs-max);
+        weights-max = omega (arith, h .kernel-length, h .shape .weights-max);
+      }
+
+  -- a tap's number by its channel, depth, row and column
+  number-is : (t : ℕ) → let o = outputAt s f 0 in tapNumber s (channelOfTap o t) (depthOfTap o t % s .z .kernel) (rowOfTap o t % s .y .kernel) (t % s .x .kernel) ≡ t
+  number-is t =
+      let o = outputAt s f 0 in
+      sym (row-number-is s (channelOfTap o t) (depthOfTap o t % s .z .kernel) (rowOfTap o t % s .y .kernel) (t % s .x .kernel))
+      ∙ ap (λ (n : ℕ). (n * s .y .kernel + rowOfTap o t % s .y .kernel) * s .x .kernel + t % s .x .kernel) (div-add-mod' (depthOfTap o t) (s .z .kernel))
+      ∙ ap (λ (n : ℕ). n * s .x .kernel + t % s .x .kernel) (div-add-mod' (rowOfTap o t) (s .y .kernel))
+      ∙ div-add-mod' t (s .x .kernel)
+
+  -- its taps are those of its number
+  taps-are-inside : {p : ℕ} → p < s .x .out → (t : ℕ) → outputTaps input kernel (outputAt s f p) t ≡ insideTaps s input kernel (f .number * s .x .out + p) t
+  taps-are-inside {p} l t =
+      let a = h .shape .sound in
+      let o = outputAt s f p in
+      sym (ap (λ (u : ℕ). insideTaps s input kernel (f .number * s .x .out + p) u) (sym (number-is t))
+      ∙ ap (λ (w : Place). tapAt input kernel (insideOnly w))
+      (place-at s (h .shape) (f .number) (channelOfTap o t) l (mod-lt (depthOfTap o t) (a .z .kernel-1)) (mod-lt (rowOfTap o t) (a .y .kernel-1)) (mod-lt t (a .x .kernel-1))
+      ∙ placed-same
+      (ap₂ (λ (m n : ℕ). (m + channelOfTap o t) * n) (sym (g .plane-is)) (ap (λ (n : ℕ). n * s .x .input) (input-rows-are s)))
+      (ap₂ (λ (m n : ℕ). m + n) (sym (g .weight-is)) (number-is t))
+      (ap₂
+      (λ (d r : ℕ). both (s .x .input) (both (s .y .input) (forward (s .z) d (depthOfTap o t % s .z .kernel)) (forward (s .y) r (rowOfTap o t % s .y .kernel))) (forward (s .x) p (t % s .x .kernel)))
+      (sym (g .depth-is)) (sym (g .row-is)))))
+
+  pub halved-output : {p : ℕ} → p < s .x .out → halved (outputTaps input kernel (outputAt s f p)) 0 (s .taps) ≡ outputOf Halved (placeOf s) (s .taps) input kernel (f .number * s .x .out + p)
+  halved-output {p} l =
+      halved-same _ _ 0 (s .taps) (λ t _ _. taps-are-inside l t) ∙ sym (output-halved (placeOf s) (s .taps) input kernel (f .number * s .x .out + p))
