@@ -2,7 +2,6 @@
 use borrow.Author.Needs.{needs}
 use mathlib.Core.Path.{_≡_, ap, _∙_}
 use Prim.Native.Nat.{_+_, _-_, _*_, _≤_, _<_}
-use native.Mathlib.Nat.{zero-add}
 use native.Mathlib.Omega.{arith}
 use denote.Ref.{now}
 use lib.ListN.{length, length-set}
@@ -13,7 +12,7 @@ use Rattle.sums.specs.Taps.{halved, outputOf}
 use Rattle.places.specs.Places.{placeOf}
 use Rattle.halved.specs.declared.Output.{Output}
 use Rattle.halved.specs.Outputs.{outputTaps, Held}
-use Rattle.halved.proofs.Outputs.{taps-1, held, halved-output}
+use Rattle.halved.proofs.Outputs.{taps-1, held, held-fewer, halved-output}
 use Rattle.halved.proofs.halved_line.Statement.{statement}
 use Rattle.halved.proofs.halved_line.Tie as tie
 
@@ -35,7 +34,10 @@ halved-sum-requires c κs =
     let a = c .before .before .before .before .before .before in
     let s = a .args .s in
     let f = a .args .f in
-    (taps-1 s _ _ (a .pre .0) f (a .pre .1 .0), rw (c .output-at .ensures, zero-add) (held s _ _ (a .pre .0) f (a .pre .1 .0) (c .before .before .loop .p)))
+    (
+      omega (arith, taps-1 s _ _ (a .pre .0) f (a .pre .1 .0)),
+      rw (c .output-at .ensures) (held-fewer _ (s .taps) _ _ _ (omega arith) (held s _ _ (a .pre .0) f (a .pre .1 .0) (c .before .before .loop .p))),
+    )
 
 loop-again : tie.Need-loop-again Inv-loop μ-loop
 loop-again c =
