@@ -134,6 +134,14 @@ typedef struct {
 koza_answer koza_convolution(const uint8_t *sheet, size_t sheet_len, const float *input, size_t input_len, const float *kernel, size_t kernel_len,
                              float *output, size_t output_len);
 
+/* As koza_convolution, in answers, lengths and refusals too, but with another summing profile, so that bits may differ: the K = I*KZ*KY*KX taps of an output
+ * are cut in two, the first part having the larger half, each part is summed the same way, and the two results are added. It is for kernels of many taps whose
+ * sums of whole numbers have to be near. Where all elements are whole numbers of magnitude up to 4,096, an output is at most K*h from the exact sum, h being
+ * the smallest with 2^h >= K, besides the (K-1)*(K+2)/2 that hold for koza_convolution: 36 beside 44 for K 9, 525 beside 2,849 for 75, 3,600 beside 80,199
+ * for 400, 49,152 beside 8,390,655 for 4,096. It takes longer. */
+koza_answer koza_convolution_halved(const uint8_t *sheet, size_t sheet_len, const float *input, size_t input_len, const float *kernel, size_t kernel_len,
+                                    float *output, size_t output_len);
+
 /* As koza_convolution, with the kernel [G, I, O, KZ, KY, KX]. */
 koza_answer koza_transposed(const uint8_t *sheet, size_t sheet_len, const float *input, size_t input_len, const float *kernel, size_t kernel_len,
                             float *output, size_t output_len);

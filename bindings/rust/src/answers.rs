@@ -10,10 +10,12 @@ pub fn version() -> u32 {
     unsafe { boundary::koza_version() }
 }
 
-/// Convolution: numbers 0 to 6, 8, 9 and 20 to 23. `output` is written only with number 0.
-pub fn convolution(sheet: &[u8], input: &[f32], kernel: &[f32], output: &mut [f32]) -> Answer {
+/// The boundary's convolutions, which take the same.
+type Sums = unsafe extern "C" fn(*const u8, usize, *const f32, usize, *const f32, usize, *mut f32, usize) -> Answer;
+
+fn sums(of: Sums, sheet: &[u8], input: &[f32], kernel: &[f32], output: &mut [f32]) -> Answer {
     unsafe {
-        boundary::koza_convolution(
+        of(
             sheet.as_ptr(), sheet.len(),
             input.as_ptr(), input.len(),
             kernel.as_ptr(), kernel.len(),
@@ -22,16 +24,19 @@ pub fn convolution(sheet: &[u8], input: &[f32], kernel: &[f32], output: &mut [f3
     }
 }
 
+/// Convolution: numbers 0 to 6, 8, 9 and 20 to 23. `output` is written only with number 0.
+pub fn convolution(sheet: &[u8], input: &[f32], kernel: &[f32], output: &mut [f32]) -> Answer {
+    sums(boundary::koza_convolution, sheet, input, kernel, output)
+}
+
+/// Convolution with sums by halves: the answers of [`convolution`]. `output` is written only with number 0.
+pub fn convolution_halved(sheet: &[u8], input: &[f32], kernel: &[f32], output: &mut [f32]) -> Answer {
+    sums(boundary::koza_convolution_halved, sheet, input, kernel, output)
+}
+
 /// Transposed convolution: numbers 0 to 6, 8, 9 and 20 to 23. `output` is written only with number 0.
 pub fn transposed(sheet: &[u8], input: &[f32], kernel: &[f32], output: &mut [f32]) -> Answer {
-    unsafe {
-        boundary::koza_transposed(
-            sheet.as_ptr(), sheet.len(),
-            input.as_ptr(), input.len(),
-            kernel.as_ptr(), kernel.len(),
-            output.as_mut_ptr(), output.len(),
-        )
-    }
+    sums(boundary::koza_transposed, sheet, input, kernel, output)
 }
 
 /// Max pooling, MaxPool-8 or MaxPool-14 by the sheet: numbers 0 to 2, 4 to 9 and 20 to 23. `values` and `indices` are written only with number 0.

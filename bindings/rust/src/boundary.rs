@@ -105,6 +105,12 @@ extern "C" {
         kernel: *const f32, kernel_len: usize,
         output: *mut f32, output_len: usize,
     ) -> Answer;
+    pub fn koza_convolution_halved(
+        sheet: *const u8, sheet_len: usize,
+        input: *const f32, input_len: usize,
+        kernel: *const f32, kernel_len: usize,
+        output: *mut f32, output_len: usize,
+    ) -> Answer;
     pub fn koza_transposed(
         sheet: *const u8, sheet_len: usize,
         input: *const f32, input_len: usize,
