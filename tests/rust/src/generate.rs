@@ -468,13 +468,19 @@ pub fn spoil_elements(r: &mut Random, t: &mut [f32]) {
     }
 }
 
-/// Elements of a tensor, seldom with bad ones.
-pub fn tensor(r: &mut Random, kind: Kind, len: usize) -> Vec<f32> {
+/// Elements of a tensor, none of them bad.
+pub fn good_tensor(r: &mut Random, kind: Kind, len: usize) -> Vec<f32> {
     let mut t: Vec<f32> = (0..len).map(|_| element(r, kind)).collect();
     if kind == Kind::Small && !r.chance(4) {
         let sign = r.pick(&[1.0, -1.0]);
         t.iter_mut().for_each(|v| *v = v.copysign(sign));
     }
+    t
+}
+
+/// Elements of a tensor, seldom with bad ones.
+pub fn tensor(r: &mut Random, kind: Kind, len: usize) -> Vec<f32> {
+    let mut t = good_tensor(r, kind, len);
     if r.chance(24) {
         spoil_elements(r, &mut t);
     }
@@ -495,6 +501,26 @@ pub fn largest() -> [Layer; 5] {
         layer(Op::Transposed, [16, 1, 1, 1024], two(along(32, 1, 1))),
         layer(Op::Transposed, [1, 4, 1024, 1], (3, [cut; 3])),
         Layer { c: 1024, ..layer(Op::MaxPool, [16, 1, 1, 1], pooled) },
+    ]
+}
+
+/// Convolutions with as many taps as are taken, or a few less, so that runs of them have halves of two sizes. Each has taps outside.
+pub fn most_taps() -> [Layer; 7] {
+    let layer = |i: u64, kernels: &[u64]| {
+        let mut l = Layer { c: i, o: 2, i, ..Layer::new(Op::Convolution, kernels.len() as u64) };
+        for (a, kernel) in l.used_mut().iter_mut().zip(kernels) {
+            *a = Axis { size: kernel + 2, kernel: *kernel, begin: 1, end: 2, ..UNUSED };
+        }
+        l
+    };
+    [
+        layer(64, &[64]),
+        layer(1021, &[4]),
+        layer(1, &[64, 64]),
+        layer(65, &[9, 7]),
+        layer(1, &[63, 63]),
+        layer(1, &[16, 16, 16]),
+        layer(13, &[5, 7, 9]),
     ]
 }
 

@@ -2,5 +2,6 @@
 //! benchmark's baselines and its chart.
 pub mod baseline;
 pub mod chart;
+pub mod functions;
 pub mod generate;
 pub mod reference;

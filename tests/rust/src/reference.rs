@@ -23,6 +23,15 @@ pub enum Rounding {
     CeilTorch,
 }
 
+/// In which order a convolution adds its products: tap by tap, or by halves.
+#[derive(Clone, Copy, Debug, PartialEq, Eq)]
+pub enum Profile {
+    Running,
+    Halved,
+}
+
+pub const PROFILES: [Profile; 2] = [Profile::Running, Profile::Halved];
+
 /// One spatial axis: input, kernel, stride, dilation, pads and output padding.
 #[derive(Clone, Copy, Debug, PartialEq, Eq)]
 pub struct Axis {
@@ -450,25 +459,43 @@ fn parts(tensor: &[f32], sizes: [u64; 3]) -> Vec<&[f32]> {
 
 // ---- the convolutions
 
-/// An output's f32 sum, and its exact account where every factor is a whole number: the sum and the total of magnitudes.
+/// An output's f32 sum in each profile, and its exact account where every factor is a whole number: the sum and the total of magnitudes.
 pub struct Sum {
-    pub value: f32,
+    running: f32,
+    halved: f32,
     pub exact: i128,
     pub magnitudes: i128,
 }
 
 impl Sum {
+    pub fn value(&self, profile: Profile) -> f32 {
+        match profile {
+            Profile::Running => self.running,
+            Profile::Halved => self.halved,
+        }
+    }
+
     fn add(&mut self, value: f32, weight: f32) {
-        self.value += value * weight;
+        self.running += value * weight;
         let p = value as i128 * weight as i128;
         self.exact += p;
         self.magnitudes += p.abs();
     }
 }
 
-/// An output from the input and the weights of each channel that it takes, by i, kz, ky, kx rising.
+/// A run of taps is cut in two, the first part having the larger half, each half is summed the same way, and the two results are added; a single tap is its
+/// product added to +0, or, outside the input, +0 without a product.
+fn halved(product: &impl Fn(usize) -> Option<f32>, first: usize, count: usize) -> f32 {
+    if count == 1 {
+        return product(first).map_or(0.0, |p| 0.0 + p);
+    }
+    let (second, larger) = (count / 2, count - count / 2);
+    halved(product, first, larger) + halved(product, first + larger, second)
+}
+
+/// An output from the input and the weights of each channel that it takes, by i, kz, ky, kx rising. A transposed convolution has no sum by halves.
 fn sum(op: Op, channels: &[(&[f32], &[f32])], taps: &[Option<usize>]) -> Sum {
-    let mut sum = Sum { value: 0.0, exact: 0, magnitudes: 0 };
+    let mut sum = Sum { running: 0.0, halved: f32::NAN, exact: 0, magnitudes: 0 };
     for (input, weights) in channels {
         for (tap, weight) in taps.iter().zip(*weights) {
             match tap {
@@ -478,7 +505,24 @@ fn sum(op: Op, channels: &[(&[f32], &[f32])], taps: &[Option<usize>]) -> Sum {
             }
         }
     }
+    if op == Op::Convolution {
+        let product = |k: usize| {
+            let ((input, weights), k) = (channels[k / taps.len()], k % taps.len());
+            taps[k].map(|place| input[place] * weights[k])
+        };
+        sum.halved = halved(&product, 0, channels.len() * taps.len());
+    }
     sum
+}
+
+/// The distance that demand 3 allows for K taps, and by halves also K times the smallest h with 2^h >= K.
+pub fn allowed_distance(profile: Profile, k: u64) -> u64 {
+    let running = (k - 1) * (k + 2) / 2;
+    let h = (0..).find(|h| 1u64 << h >= k).expect("there are powers of two above K");
+    match profile {
+        Profile::Running => running,
+        Profile::Halved => running.min(k * h),
+    }
 }
 
 /// Either convolution: every output in row-major order.

@@ -1,8 +1,9 @@
 //! Compares the static library with the reference on generated calls, bit for bit, buffers of refused calls included.
 //! usage: differential [CALLS] [SEED]      (100,000 calls and seed 1 by default)
 use kozamyure::answers::{self, Answer, LengthsAnswer, Part, ShapeAnswer, Written};
+use kozamyure_tests::functions::{profiles, sums};
 use kozamyure_tests::generate::{self, Kind, Pick, Random};
-use kozamyure_tests::reference::{self, Along, AutoPad, Axis, Layer, Op, Refusal, Rounding, Shape, Sum, X, Y, Z};
+use kozamyure_tests::reference::{self, Along, AutoPad, Axis, Layer, Op, Profile, Refusal, Rounding, Shape, Sum, X, Y, Z};
 use std::collections::{BTreeMap, BTreeSet};
 use std::process::ExitCode;
 
@@ -30,6 +31,7 @@ struct Counts {
     /// Planes, by what they are.
     planes: BTreeMap<&'static str, u64>,
     largest: u64,
+    most_taps: u64,
     /// Calls with three axes, by operator and number.
     three_axes: BTreeMap<(&'static str, u32), u64>,
     /// Tensors that were refused with 9, by what they are and how many of their elements are bad.
@@ -46,6 +48,10 @@ struct Counts {
     pads: BTreeMap<&'static str, u64>,
     /// Their rows in which some output has no tap inside the input's columns: the outputs, and whether the stride is above 1.
     rows_outside: BTreeSet<(u64, bool)>,
+    /// Accepted convolutions, by what their sums by halves are beside the running ones.
+    halved: BTreeMap<&'static str, u64>,
+    /// The numbers of their taps.
+    taps: BTreeSet<u64>,
     /// Sheets that begin with `version=` and were refused, by the line.
     refused_lines: BTreeMap<u32, u64>,
     failures: u64,
@@ -76,6 +82,10 @@ const PADS: [&str; 11] = [
     "products that all are -0",
     "products that all are -0 inside and +0 outside",
 ];
+
+/// What sums by halves are beside running ones: each must be seen, and every number of taps up to TAPS.
+const HALVED: [&str; 5] = ["the same bits", "other bits", "other bits of whole numbers", "other bits and some tap outside", "other bits and 4,096 taps"];
+const TAPS: u64 = 40;
 
 /// The lines of a sheet with a version line, and the line after the last: each must be seen refused.
 const VERSION_LINES: [u32; 14] = [1, 2, 3, 4, 5, 6, 7, 8, 9, 10, 11, 12, 13, 14];
@@ -217,6 +227,17 @@ impl Counts {
         }
     }
 
+    /// An accepted convolution, by what its sums are in the two profiles.
+    fn see_halved(&mut self, l: &Layer, shape: &Shape, kind: Kind, sums: &[Sum]) {
+        let other = sums.iter().any(|s| s.value(Profile::Halved).to_bits() != s.value(Profile::Running).to_bits());
+        let outside = || l.spatial.iter().zip(&shape.along).any(|(a, s)| (0..s.out as u64).any(|p| reference::taps_inside(a, s, p) < a.kernel));
+        let has = [!other, other, other && kind == Kind::Whole, other && outside(), other && shape.taps == 4096];
+        for (what, _) in HALVED.into_iter().zip(has).filter(|(_, has)| *has) {
+            *self.halved.entry(what).or_default() += 1;
+        }
+        self.taps.insert(shape.taps);
+    }
+
     fn see_three_axes(&mut self, op: Op, number: u32) {
         let (_, name, _) = THREE_AXES.iter().find(|(of, ..)| *of == op).expect("every operator is there");
         *self.three_axes.entry((name, number)).or_default() += 1;
@@ -332,15 +353,15 @@ fn check_rewrite(r: &mut Random, counts: &mut Counts, sheet: &[u8], made_of: &La
 }
 
 /// Demand 3, by exact integers.
-fn check_whole(counts: &mut Counts, sheet: &[u8], shape: &Shape, sums: &[Sum], output: &[f32]) {
-    let k = shape.taps as i128;
+fn check_whole(counts: &mut Counts, sheet: &[u8], profile: Profile, shape: &Shape, sums: &[Sum], output: &[f32]) {
+    let most = i128::from(reference::allowed_distance(profile, shape.taps));
     for (sum, out) in sums.iter().zip(output) {
         counts.whole += 1;
-        let near = out.fract() == 0.0 && (*out as i128 - sum.exact).abs() <= (k - 1) * (k + 2) / 2;
+        let near = out.fract() == 0.0 && (*out as i128 - sum.exact).abs() <= most;
         let same = sum.magnitudes > 16_777_216 || *out as i128 == sum.exact;
         counts.exact += u64::from(sum.magnitudes <= 16_777_216);
         if !near || !same {
-            counts.fail("demand 3", sheet, format!("{out} for the exact sum {} of {k} taps", sum.exact));
+            counts.fail("demand 3", sheet, format!("{profile:?}: {out} for the exact sum {} of {} taps", sum.exact, shape.taps));
         }
     }
 }
@@ -355,40 +376,48 @@ struct Call<'a> {
     outputs: usize,
 }
 
+/// A convolution in one profile, with an output that holds `before` at entry.
+fn check_sums(counts: &mut Counts, op: Op, profile: Profile, call: &Call, before: &[f32], result: &Result<(Shape, Vec<Sum>), Refusal>) {
+    let mut output = before.to_vec();
+    let got = sums(op, profile)(call.sheet, &call.input, &call.kernel, &mut output);
+    let (expected, after) = match result {
+        Err(e) => (answer_of(*e), bits(before)),
+        Ok((_, sums)) => (answer_of(DONE), sums.iter().map(|s| s.value(profile).to_bits()).collect()),
+    };
+    if got != expected || bits(&output) != after {
+        counts.fail("convolution", call.sheet, format!("{op:?}, {profile:?}: {got:?}, expected {expected:?}; output {output:?}"));
+    }
+    if let Ok((shape, sums)) = result {
+        counts.outputs += sums.len() as u64;
+        if call.kind == Kind::Whole {
+            check_whole(counts, call.sheet, profile, shape, sums, &output);
+        }
+    }
+}
+
+/// A convolution in every profile that its operator has. All come back with one number.
 fn check_convolution(r: &mut Random, counts: &mut Counts, op: Op, call: &Call) -> u32 {
     let before: Vec<f32> = (0..call.outputs).map(|_| f32::from_bits(r.draw() as u32)).collect();
-    let mut output = before.clone();
-    let got = if op == Op::Convolution {
-        answers::convolution(call.sheet, &call.input, &call.kernel, &mut output)
-    } else {
-        answers::transposed(call.sheet, &call.input, &call.kernel, &mut output)
-    };
     let result = match call.layer {
         None => Err(call.read.expect("a sheet is read or refused")),
         Some(l) => reference::convolve(op, l, &call.input, &call.kernel, call.outputs),
     };
-    let (expected, after) = match &result {
-        Err(e) => (answer_of(*e), bits(&before)),
-        Ok((_, sums)) => (answer_of(DONE), sums.iter().map(|s| s.value.to_bits()).collect()),
-    };
-    counts.see_refused(&expected, call);
-    if got != expected || bits(&output) != after {
-        counts.fail("convolution", call.sheet, format!("{op:?}: {got:?}, expected {expected:?}; output {output:?}"));
+    for profile in profiles(op) {
+        check_sums(counts, op, *profile, call, &before, &result);
     }
+    let expected = result.as_ref().err().map_or(DONE, |e| *e);
+    counts.see_refused(&answer_of(expected), call);
     if let (Some(l), Ok((shape, sums))) = (call.layer, &result) {
-        counts.outputs += sums.len() as u64;
         counts.see_rows(l, shape);
         if op == Op::Convolution {
             counts.see_windows(l, shape);
+            counts.see_halved(l, shape, call.kind, sums);
         }
         if op == Op::Convolution && l.auto_pad == AutoPad::Explicit {
             counts.see_pads(l, shape, call);
         }
-        if call.kind == Kind::Whole {
-            check_whole(counts, call.sheet, shape, sums, &output);
-        }
     }
-    got.number
+    expected.number
 }
 
 fn check_maxpool(r: &mut Random, counts: &mut Counts, call: &Call, indices: usize) -> u32 {
@@ -484,6 +513,20 @@ fn check_largest(r: &mut Random, counts: &mut Counts) {
     }
     for bad in [Bad::No, Bad::Last, Bad::Few, Bad::All] {
         peak_of(counts, &ones(LARGEST, bad), 4096);
+    }
+}
+
+/// Calls with the most taps, of every kind of elements.
+fn check_most_taps(r: &mut Random, counts: &mut Counts) {
+    for layer in generate::most_taps() {
+        let sheet = reference::show_sheet(&layer).into_bytes();
+        let shape = reference::judge(layer.op, &layer).expect("a layer at the limit");
+        for kind in [Kind::Whole, Kind::Any, Kind::Small] {
+            let [input, kernel] = [shape.inputs, shape.weights].map(|len| generate::good_tensor(r, kind, len as usize));
+            let call = Call { sheet: &sheet, layer: Some(&layer), read: None, kind, input, kernel, outputs: shape.outputs as usize };
+            check_convolution(r, counts, layer.op, &call);
+            counts.most_taps += 1;
+        }
     }
 }
 
@@ -650,6 +693,15 @@ fn report_pads(counts: &Counts, made: u64) -> bool {
     met(all && rows == all_rows && seen.iter().all(|(_, n)| *n > 0), "convolutions with pads", made)
 }
 
+/// Whether convolutions were met with all that sums by halves can be beside running ones, and with every number of taps.
+fn report_halved(counts: &Counts, made: u64) -> bool {
+    let seen = times(&counts.halved, HALVED);
+    println!("sums by halves beside running ones: {}", seen.map(|(what, n)| format!("{what} {n}")).join("; "));
+    let (taps, most) = (counts.taps.range(..=TAPS).count() as u64, counts.taps.last().copied().unwrap_or(0));
+    println!("numbers of taps, 1 to {TAPS}: {taps} of {TAPS} seen; the largest of {} seen is {most}", counts.taps.len());
+    met(taps == TAPS && seen.iter().all(|(_, n)| *n > 0), "sums by halves", made)
+}
+
 /// Whether valid with ceil was met with all that it can be beside floor.
 fn report_valid_ceil(counts: &Counts, made: u64) -> bool {
     let seen = times(&counts.valid_ceil, VALID_CEIL);
@@ -684,11 +736,22 @@ fn main() -> ExitCode {
         made = counts.by_number.values().sum();
     }
     check_largest(&mut r, &mut counts);
-    println!("{made} calls and {} with the largest tensors", counts.largest);
+    check_most_taps(&mut r, &mut counts);
+    println!("{made} calls, {} with the largest tensors and {} with the most taps", counts.largest, counts.most_taps);
     println!("{} outputs, {} of them whole, {} in the exact case", counts.outputs, counts.whole, counts.exact);
     println!("{} peaks, {} sheets written back", counts.peaks, counts.rewritten);
-    let reports =
-        [report_numbers, report_rows, report_pads, report_planes, report_bad, report_valid_ceil, report_ceil_torch, report_versions, report_three_axes];
+    let reports = [
+        report_numbers,
+        report_rows,
+        report_pads,
+        report_halved,
+        report_planes,
+        report_bad,
+        report_valid_ceil,
+        report_ceil_torch,
+        report_versions,
+        report_three_axes,
+    ];
     let all_seen = reports.map(|report| report(&counts, made)).iter().all(|seen| *seen);
     if counts.failures > 0 {
         println!("{} comparisons FAILED", counts.failures);
