@@ -1,13 +1,16 @@
 //! Times each operator of the static library beside baselines on the same inputs: the same loops in plain Rust, in C at -O2 and at -O3, and the limit, which
 //! is C at -O3 tap by tap over whole rows of outputs. All sum in the same order; outputs are compared bit for bit. Prints the best runs, the ratio of the
 //! library's time to plain Rust's, and the share of the limit's speed that the library reaches; for a convolution also the share of its taps that lie inside
-//! the input, and the library's time for each of these. With a path it also writes the ratios as a bar chart.
+//! the input, and the library's time for each of these. With a path it also writes the ratios as a bar chart. Last come the two summing profiles of convolution,
+//! their times and the largest distances from exact sums.
 //! usage: benchmark [CHART.svg]
 use kozamyure_tests::baseline::{c_o2, c_o3, c_rows, plain_rust, Call, Outputs};
 use kozamyure_tests::chart::{chart, Row};
+use kozamyure_tests::distance;
+use kozamyure_tests::functions::sums;
 use kozamyure_tests::generate::Random;
 use kozamyure_tests::reference::Op::{self, Convolution, MaxPool, Transposed};
-use kozamyure_tests::reference::{judge, show_sheet, taps_inside, Axis, Layer, Shape, UNUSED};
+use kozamyure_tests::reference::{judge, show_sheet, taps_inside, Axis, Layer, Shape, PROFILES, UNUSED};
 use std::process::ExitCode;
 use std::time::{Duration, Instant};
 
@@ -80,6 +83,13 @@ const THREE_AXES: &[(u64, Case)] = &[
     (16, (Convolution, [4, 32, 32, 4, 3, 1, 1, 1], "")),
     (16, (Convolution, [4, 32, 32, 4, 3, 1, 1, 16], "")),
     (16, (MaxPool, [16, 64, 64, 1, 2, 2, 1, 0], "")),
+];
+
+/// Convolutions that are timed in both profiles.
+const BOTH_PROFILES: &[Case] = &[
+    (Convolution, [1, 480, 640, 1, 5, 1, 1, 2], " (a camera picture)"),
+    (Convolution, [16, 64, 64, 8, 5, 1, 1, 2], ""),
+    (Convolution, [64, 16, 16, 8, 8, 1, 1, 0], " (4,096 taps)"),
 ];
 
 /// How often the benchmark goes over all calls: a slow phase of the machine outlasts the turns of one call, but not the whole table.
@@ -238,6 +248,25 @@ fn run() -> Vec<Measured> {
     measured
 }
 
+/// The best times of some convolutions in both profiles, which take turns.
+fn print_profiles() {
+    println!("\n| call | taps | outputs | running, ms | by halves, ms | by halves / running |\n|---|---|---|---|---|---|");
+    for Measured { call, name, .. } in BOTH_PROFILES.iter().map(|case| Measured::new(None, case)) {
+        let mut output = vec![f32::NAN; call.shape.outputs as usize];
+        let (start, mut best) = (Instant::now(), [f64::INFINITY; 2]);
+        while start.elapsed() < Duration::from_millis(500) {
+            for (profile, best) in PROFILES.into_iter().zip(&mut best) {
+                let start = Instant::now();
+                assert_eq!(sums(Convolution, profile)(&call.sheet, &call.input, &call.kernel, &mut output).number, 0);
+                *best = best.min(start.elapsed().as_secs_f64() * 1000.0);
+            }
+        }
+        let [running, halved] = best;
+        println!("| {name} | {} | {} | {running:.3} | {halved:.3} | {:.1} |", call.shape.taps, call.shape.outputs, halved / running);
+    }
+    println!();
+}
+
 fn main() -> ExitCode {
     let paths: Vec<String> = std::env::args().skip(1).collect();
     if paths.len() > 1 {
@@ -250,6 +279,11 @@ fn main() -> ExitCode {
             eprintln!("benchmark: cannot write {path}: {e}");
             return ExitCode::FAILURE;
         }
+    }
+    print_profiles();
+    if !distance::print() {
+        eprintln!("benchmark: a distance is above its bound");
+        return ExitCode::FAILURE;
     }
     ExitCode::SUCCESS
 }

@@ -1,7 +1,7 @@
 //! Compares the bindings with `include/kozamyure.h` and document 01: the text of every number, the versions, and each function accepted and refused. What the
 //! functions give is written out here, from the header and the document. The first difference ends the program.
 //! usage: bindings [REPOSITORY]
-use kozamyure::{convolution, lengths, maxpool, peak, plane, rewrite, shape, transposed, Error, Lengths, Peak, Shape, Tensor, SHEET_MAX};
+use kozamyure::{convolution, convolution_halved, lengths, maxpool, peak, plane, rewrite, shape, transposed, Error, Lengths, Peak, Shape, Tensor, SHEET_MAX};
 use std::collections::BTreeMap;
 use std::fmt::Debug;
 use std::process::exit;
@@ -133,6 +133,8 @@ fn check_accepted(c: &mut Compared) {
     let mut sum = [7.0];
     c.same("convolution", convolution(conv.as_bytes(), &[4096.0, 1.0], &[4096.0, 1.0], &mut sum), Ok(()));
     c.same("the sum of a convolution", sum, [16_777_216.0]);
+    c.same("convolution_halved", convolution_halved(conv.as_bytes(), &[4096.0, 1.0], &[4096.0, 1.0], &mut sum), Ok(()));
+    c.same("the sum of a convolution by halves", sum, [16_777_216.0]);
     let mut sums = [7.0; 5];
     c.same("transposed", transposed(trans.as_bytes(), &[1.0, 2.0], &[1.0; 3], &mut sums), Ok(()));
     c.same("the sums of a transposed convolution", sums, [1.0, 1.0, 3.0, 2.0, 2.0]);
@@ -154,6 +156,15 @@ fn check_accepted(c: &mut Compared) {
     c.same("plane", plane(&values, [1, 2, 1, 2, 2], 0, 1, 0), &[14.0, 15.0, 17.0, 18.0]);
     c.same("peak", peak(&[3.0, 1.0, 4.0, 1.0, 5.0, 5.0], 2), Ok(Peak { value: 5.0, row: 2, column: 0 }));
     c.same("float_mode_ok", kozamyure::float_mode_ok(), true);
+}
+
+/// Four taps with the products 2^24, 1, 1 and 1: a running sum stays at 2^24, the last two together move it. A tap outside takes part as +0.
+fn check_profiles(c: &mut Compared) {
+    let conv = sheet("convolution", "1,1,4", "1,1,1,4", 1).replacen("end=0", "end=1", 1);
+    let (input, kernel, mut running, mut halved) = ([4096.0, 1.0, 1.0, 1.0], [4096.0, 1.0, 1.0, 1.0], [7.0; 2], [7.0; 2]);
+    c.same("convolution", convolution(conv.as_bytes(), &input, &kernel, &mut running), Ok(()));
+    c.same("convolution_halved", convolution_halved(conv.as_bytes(), &input, &kernel, &mut halved), Ok(()));
+    c.same("the sums of both profiles", (running, halved), ([16_777_216.0, 4098.0], [16_777_218.0, 4098.0]));
 }
 
 /// Accepted calls with three axes: POOL with a depth before its rows, and a plane at each depth.
@@ -226,11 +237,18 @@ fn check_refused_operators(c: &mut Compared) {
     (bad_input[5], bad_input[17]) = (f32::NAN, f32::INFINITY);
     let (mut sum, mut sums, mut values, mut indices) = ([7.0], [7.0; 5], [7.0; 8], [7; 8]);
 
-    c.refused(convolution(conv, &pair, &pair, &mut sums), LENGTH);
-    c.refused(convolution(conv, &pair, &[], &mut sum), LENGTH);
-    c.refused(convolution(conv, &pair, &bad, &mut sum), "number 9: an element above 2^40 in magnitude or NaN; the kernel has 1 bad element, at 1");
-    c.refused(convolution(conv, &bad, &[2e12; 2], &mut sum), "number 9: an element above 2^40 in magnitude or NaN; the input has 1 bad element, at 1");
-    c.refused(convolution(&[], &[], &[], &mut []), &at_line(KEY, 1));
+    for convolution in [convolution, convolution_halved] {
+        c.refused(convolution(conv, &pair, &pair, &mut sums), LENGTH);
+        c.refused(convolution(conv, &pair, &[], &mut sum), LENGTH);
+        c.refused(convolution(conv, &pair, &bad, &mut sum), "number 9: an element above 2^40 in magnitude or NaN; the kernel has 1 bad element, at 1");
+        c.refused(convolution(conv, &bad, &[2e12; 2], &mut sum), "number 9: an element above 2^40 in magnitude or NaN; the input has 1 bad element, at 1");
+        c.refused(convolution(trans, &pair, &pair, &mut sum), OPERATOR);
+        c.refused(convolution(&[], &[], &[], &mut []), &at_line(KEY, 1));
+        let fields = Error { number: 9, line: 0, tensor: Some(Tensor::Kernel), place: 1, bad: 1 };
+        c.same("the fields of a refusal", convolution(conv, &pair, &bad, &mut sum), Err(fields));
+        let fields = Error { number: 8, line: 0, tensor: None, place: 0, bad: 0 };
+        c.same("the fields of a refusal", convolution(conv, &bad, &bad, &mut sums), Err(fields));
+    }
     c.refused(transposed(trans, &[], &[1.0; 3], &mut sums), LENGTH);
     let three = [-2e12; 3];
     c.refused(transposed(trans, &pair, &three, &mut sums), "number 9: an element above 2^40 in magnitude or NaN; the kernel has 3 bad elements, the first at 0");
@@ -242,10 +260,6 @@ fn check_refused_operators(c: &mut Compared) {
     c.refused(maxpool(trans, &pair, &mut values, &mut indices), OPERATOR);
     c.refused(maxpool(&[], &[], &mut [], &mut []), &at_line(KEY, 1));
 
-    let fields = Error { number: 9, line: 0, tensor: Some(Tensor::Kernel), place: 1, bad: 1 };
-    c.same("the fields of a refusal", convolution(conv, &pair, &bad, &mut sum), Err(fields));
-    let fields = Error { number: 8, line: 0, tensor: None, place: 0, bad: 0 };
-    c.same("the fields of a refusal", convolution(conv, &bad, &bad, &mut sums), Err(fields));
     c.same("the buffers of refused operators", (sum, sums, values, indices), ([7.0], [7.0; 5], [7.0; 8], [7; 8]));
 }
 
@@ -300,6 +314,7 @@ fn main() {
     check_versions(&mut c, &header, &manifest);
     check_texts(&mut c, &header);
     check_accepted(&mut c);
+    check_profiles(&mut c);
     check_three_axes(&mut c);
     check_version_14(&mut c);
     check_refused_operators(&mut c);

@@ -1,10 +1,13 @@
 //! Pairs of calls of the static library that share one image of the input and nothing else of it, and the call on that image alone: by document 01 (C-11) the
-//! outputs and indices of the image are the same. Here the library is beside itself; `differential` has it beside the reference.
+//! outputs and indices of the image are the same, for convolution in calls of one profile. Here the library is beside itself; `differential` has it beside the
+//! reference.
 //! usage: images [PAIRS] [SEED]      (20,000 pairs and seed 1 by default)
 use kozamyure::answers;
+use kozamyure_tests::functions::{profiles, sums};
 use kozamyure_tests::generate::{self, Random};
-use kozamyure_tests::reference::{self, Layer, Op};
+use kozamyure_tests::reference::{self, Layer, Op, Profile};
 use std::collections::BTreeMap;
+use std::ops::Range;
 use std::process::ExitCode;
 
 /// What a call comes back with and leaves: its number, the bits of its outputs and, of max pooling, its indices.
@@ -14,17 +17,49 @@ struct Left {
     indices: Vec<i64>,
 }
 
-const OPS: [(Op, &str); 3] = [(Op::Convolution, "convolution"), (Op::Transposed, "transposed"), (Op::MaxPool, "maxpool")];
+/// What the calls of a pair have in common: layer, profile and the image.
+#[derive(Clone, Copy)]
+struct Shared {
+    layer: Layer,
+    profile: Profile,
+    n: usize,
+}
+
+impl Shared {
+    fn name(&self) -> &'static str {
+        let of = |(op, profile, _): &&(Op, Profile, _)| (*op, *profile) == (self.layer.op, self.profile);
+        FUNCTIONS.iter().find(of).expect("every function is there").2
+    }
+
+    /// The shared image of a tensor of all images.
+    fn image<'a, T>(&self, tensor: &'a [T]) -> &'a [T] {
+        &tensor[self.range(tensor.len())]
+    }
+
+    /// Where it lies in a tensor of so many elements.
+    fn range(&self, len: usize) -> Range<usize> {
+        let size = len / self.layer.n as usize;
+        self.n * size..(self.n + 1) * size
+    }
+}
+
+const FUNCTIONS: [(Op, Profile, &str); 4] = [
+    (Op::Convolution, Profile::Running, "convolution"),
+    (Op::Convolution, Profile::Halved, "convolution by halves"),
+    (Op::Transposed, Profile::Running, "transposed"),
+    (Op::MaxPool, Profile::Running, "maxpool"),
+];
 const AXES: [&str; 3] = ["one axis", "two axes", "three axes"];
 
-/// What pairs of any operator have, and those of max pooling: each must be seen.
+/// What pairs of any function have, those of convolution, and those of max pooling: each must be seen.
 const IMAGES: [&str; 8] =
     ["two images", "three to fifteen", "sixteen", "the first", "the last", "one between", "a call refused for another image", "other outputs elsewhere"];
+const OTHER_PROFILE: [&str; 1] = ["other bits in the other profile"];
 const INDICES: [&str; 5] = ["axis 0", "axis -R", "axis above 0", "axis from -R + 1 on", "other indices elsewhere"];
 
 #[derive(Default)]
 struct Seen {
-    /// Pairs of accepted calls, by operator and what they have.
+    /// Pairs of accepted calls, by function and what they have.
     pairs: BTreeMap<(&'static str, &'static str), u64>,
     alone: u64,
     outputs: u64,
@@ -36,37 +71,27 @@ impl Seen {
         *self.pairs.entry((name, what)).or_default() += u64::from(has);
     }
 
-    fn same<T: PartialEq + std::fmt::Debug>(&mut self, what: &str, l: &Layer, n: usize, got: &[T], expected: &[T]) {
+    fn same<T: PartialEq + std::fmt::Debug>(&mut self, what: &str, shared: &Shared, got: &[T], expected: &[T]) {
         self.outputs += expected.len() as u64;
         if got == expected {
             return;
         }
         self.failures += 1;
         if self.failures <= 5 {
-            eprintln!("FAILED: {what} of image {n}: {got:?}, expected {expected:?}\nsheet:\n{}", reference::show_sheet(l));
+            let (name, n, sheet) = (shared.name(), shared.n, reference::show_sheet(&shared.layer));
+            eprintln!("FAILED: {name}, {what} of image {n}: {got:?}, expected {expected:?}\nsheet:\n{sheet}");
         }
     }
 }
 
-fn name_of(op: Op) -> &'static str {
-    OPS.iter().find(|(of, _)| *of == op).expect("every operator is there").1
-}
-
-/// Image n of a tensor of so many images.
-fn image<T>(images: u64, n: usize, tensor: &[T]) -> &[T] {
-    let size = tensor.len() / images as usize;
-    &tensor[n * size..][..size]
-}
-
 /// A call with outputs that hold anything at entry.
-fn call(r: &mut Random, l: &Layer, input: &[f32], kernel: &[f32], outputs: usize) -> Left {
+fn call(r: &mut Random, l: &Layer, profile: Profile, input: &[f32], kernel: &[f32], outputs: usize) -> Left {
     let sheet = reference::show_sheet(l).into_bytes();
     let mut output: Vec<f32> = (0..outputs).map(|_| f32::from_bits(r.draw() as u32)).collect();
     let mut indices: Vec<i64> = (0..outputs).map(|_| r.draw() as i64).collect();
     let answer = match l.op {
-        Op::Convolution => answers::convolution(&sheet, input, kernel, &mut output),
-        Op::Transposed => answers::transposed(&sheet, input, kernel, &mut output),
         Op::MaxPool => answers::maxpool(&sheet, input, &mut output, &mut indices),
+        op => sums(op, profile)(&sheet, input, kernel, &mut output),
     };
     if l.op != Op::MaxPool {
         indices.clear();
@@ -85,22 +110,23 @@ fn batch(r: &mut Random) -> (Layer, reference::Shape) {
     }
 }
 
-/// The call on image n alone beside a call that was accepted.
-fn check_alone(r: &mut Random, seen: &mut Seen, l: &Layer, n: usize, input: &[f32], kernel: &[f32], batch: &Left) {
-    let (own, of_batch) = (image(l.n, n, input), image(l.n, n, &batch.outputs));
-    let alone = call(r, &Layer { n: 1, ..*l }, own, kernel, of_batch.len());
+/// The call on the image alone beside a call that was accepted.
+fn check_alone(r: &mut Random, seen: &mut Seen, shared: &Shared, input: &[f32], kernel: &[f32], batch: &Left) {
+    let Shared { layer: l, profile, n } = shared;
+    let (own, of_batch) = (shared.image(input), shared.image(&batch.outputs));
+    let alone = call(r, &Layer { n: 1, ..*l }, *profile, own, kernel, of_batch.len());
     let counts_images = l.op == Op::MaxPool && (l.axis == 0 || l.axis == -(l.axes as i64 + 2));
     let more = if counts_images { (n * own.len()) as i64 } else { 0 };
     let indices: Vec<i64> = alone.indices.iter().map(|p| p + more).collect();
     seen.alone += 1;
-    seen.same("alone: number", l, n, &[alone.number], &[0]);
-    seen.same("alone: outputs", l, n, of_batch, &alone.outputs);
-    seen.same("alone: indices", l, n, image(l.n, n, &batch.indices), &indices);
+    seen.same("alone: number", shared, &[alone.number], &[0]);
+    seen.same("alone: outputs", shared, of_batch, &alone.outputs);
+    seen.same("alone: indices", shared, shared.image(&batch.indices), &indices);
 }
 
 /// What a pair of accepted calls has.
-fn see_pair(seen: &mut Seen, l: &Layer, n: usize, a: &Left, b: &Left) {
-    let name = name_of(l.op);
+fn see_pair(seen: &mut Seen, shared: &Shared, a: &Left, b: &Left) {
+    let (name, Shared { layer: l, n, .. }) = (shared.name(), *shared);
     let [two, some, sixteen, first, last, between, _, elsewhere] = IMAGES;
     let end = l.n as usize - 1;
     seen.see(name, AXES[l.axes as usize - 1], true);
@@ -116,23 +142,30 @@ fn see_pair(seen: &mut Seen, l: &Layer, n: usize, a: &Left, b: &Left) {
     }
 }
 
-/// Two inputs that share image n: number 9 where one has a bad element in it, and no other refusal.
+/// Whether the other profile of a convolution leaves other bits, so that both calls of a pair have to be of one.
+fn see_other_profile(r: &mut Random, seen: &mut Seen, shared: &Shared, input: &[f32], kernel: &[f32], left: &Left) {
+    if let Some(other) = profiles(shared.layer.op).iter().find(|p| **p != shared.profile) {
+        let bits = call(r, &shared.layer, *other, input, kernel, left.outputs.len()).outputs;
+        seen.see(shared.name(), OTHER_PROFILE[0], bits != left.outputs);
+    }
+}
+
+/// Two inputs that share an image: number 9 where one has a bad element in it, and no other refusal.
 fn one_pair(r: &mut Random, seen: &mut Seen) {
-    let (l, shape) = batch(r);
-    let n = r.range(0, l.n - 1) as usize;
+    let (layer, shape) = batch(r);
+    let shared = Shared { layer, profile: r.pick(profiles(layer.op)), n: r.range(0, layer.n - 1) as usize };
     let [inputs, weights, outputs] = [shape.inputs, shape.weights, shape.outputs].map(|len| len as usize);
     let (kind, other) = (generate::kind(r), generate::kind(r));
     let a = generate::tensor(r, kind, inputs);
     let mut b = generate::tensor(r, other, inputs);
-    let size = inputs / l.n as usize;
-    b[n * size..][..size].copy_from_slice(image(l.n, n, &a));
-    let kernel = if l.op == Op::MaxPool { Vec::new() } else { generate::tensor(r, kind, weights) };
+    b[shared.range(inputs)].copy_from_slice(shared.image(&a));
+    let kernel = if layer.op == Op::MaxPool { Vec::new() } else { generate::tensor(r, kind, weights) };
     let left = [&a, &b].map(|input| {
         let good = reference::elements(0, input).is_ok() && reference::elements(1, &kernel).is_ok();
-        let left = call(r, &l, input, &kernel, outputs);
-        seen.same("number", &l, n, &[left.number], &[if good { 0 } else { 9 }]);
+        let left = call(r, &layer, shared.profile, input, &kernel, outputs);
+        seen.same("number", &shared, &[left.number], &[if good { 0 } else { 9 }]);
         if left.number == 0 {
-            check_alone(r, seen, &l, n, input, &kernel, &left);
+            check_alone(r, seen, &shared, input, &kernel, &left);
         }
         left
     });
@@ -140,11 +173,12 @@ fn one_pair(r: &mut Random, seen: &mut Seen) {
     let [.., refused, _] = IMAGES;
     match left.each_ref().map(|left| left.number) {
         [0, 0] => {
-            seen.same("outputs", &l, n, image(l.n, n, &first.outputs), image(l.n, n, &second.outputs));
-            seen.same("indices", &l, n, image(l.n, n, &first.indices), image(l.n, n, &second.indices));
-            see_pair(seen, &l, n, first, second);
+            seen.same("outputs", &shared, shared.image(&first.outputs), shared.image(&second.outputs));
+            seen.same("indices", &shared, shared.image(&first.indices), shared.image(&second.indices));
+            see_pair(seen, &shared, first, second);
+            see_other_profile(r, seen, &shared, &a, &kernel, first);
         }
-        [0, _] | [_, 0] => seen.see(name_of(l.op), refused, true),
+        [0, _] | [_, 0] => seen.see(shared.name(), refused, true),
         _ => {}
     }
 }
@@ -157,8 +191,13 @@ fn main() -> ExitCode {
     (0..pairs).for_each(|_| one_pair(&mut r, &mut seen));
     println!("{pairs} pairs of calls that share an image, {} calls on it alone, {} numbers, outputs and indices compared", seen.alone, seen.outputs);
     let mut all = true;
-    for (op, name) in OPS {
-        let whats = AXES.iter().chain(&IMAGES).chain(if op == Op::MaxPool { &INDICES[..] } else { &[] });
+    for (op, _, name) in FUNCTIONS {
+        let own = match op {
+            Op::Convolution => &OTHER_PROFILE[..],
+            Op::Transposed => &[],
+            Op::MaxPool => &INDICES,
+        };
+        let whats = AXES.iter().chain(&IMAGES).chain(own);
         let counts: Vec<_> = whats.map(|what| (what, seen.pairs.get(&(name, *what)).copied().unwrap_or(0))).collect();
         println!("{name}: {}", counts.iter().map(|(what, n)| format!("{what} {n}")).collect::<Vec<_>>().join(", "));
         all &= counts.iter().all(|(_, n)| *n > 0);
