@@ -160,7 +160,19 @@ static void set_sheet(const void *bytes, size_t len) {
 
 enum op { CONVOLUTION, TRANSPOSED, MAXPOOL, OPS };
 static const char *const OP_NAMES[OPS] = {"convolution", "transposed", "maxpool"};
-static const char *const FUNCTIONS[OPS] = {"koza_convolution", "koza_transposed", "koza_maxpool"};
+
+/* Convolution has a function for each summing profile; the answers of both are the same. */
+enum function { RUNNING, HALVED, TRANSPOSE, POOL, FUNCTIONS };
+static const struct {
+    enum op op;
+    const char *name;
+    koza_answer (*sums)(const uint8_t *, size_t, const float *, size_t, const float *, size_t, float *, size_t); /* none for maxpool */
+} FUNCTION[FUNCTIONS] = {
+    [RUNNING] = {CONVOLUTION, "koza_convolution", koza_convolution},
+    [HALVED] = {CONVOLUTION, "koza_convolution_halved", koza_convolution_halved},
+    [TRANSPOSE] = {TRANSPOSED, "koza_transposed", koza_transposed},
+    [POOL] = {MAXPOOL, "koza_maxpool", NULL},
+};
 static const char *const MODES[] = {"explicit", "same_upper", "same_lower", "valid"};
 
 /* The numbers of a sheet. From Z on each number of Z is followed by those of Y and X. */
@@ -331,15 +343,13 @@ typedef struct {
     uint32_t bits;
 } element;
 
-static koza_answer call(enum op op, const float *input, const float *kernel, float *output, int64_t *indices, lengths n) {
-    switch (op) {
-    case CONVOLUTION: return koza_convolution(sheet, sheet_len, input, n.input, kernel, n.kernel, output, n.output);
-    case TRANSPOSED: return koza_transposed(sheet, sheet_len, input, n.input, kernel, n.kernel, output, n.output);
-    default: return koza_maxpool(sheet, sheet_len, input, n.input, output, n.output, indices, n.indices);
-    }
+static koza_answer call(enum function f, const float *input, const float *kernel, float *output, int64_t *indices, lengths n) {
+    if (f == POOL)
+        return koza_maxpool(sheet, sheet_len, input, n.input, output, n.output, indices, n.indices);
+    return FUNCTION[f].sums(sheet, sheet_len, input, n.input, kernel, n.kernel, output, n.output);
 }
 
-static void call_operator(enum op op, lengths n, const element *put, size_t puts, koza_answer expected) {
+static void call_function(enum function f, lengths n, const element *put, size_t puts, koza_answer expected) {
     float *input = lend(INPUT, n.input * sizeof *input), *kernel = lend(KERNEL, n.kernel * sizeof *kernel);
     float *output = lend(OUTPUT, n.output * sizeof *output);
     int64_t *indices = lend(INDICES, n.indices * sizeof *indices);
@@ -351,9 +361,16 @@ static void call_operator(enum op op, lengths n, const element *put, size_t puts
         memcpy((put[i].tensor == 0 ? input : kernel) + put[i].place, &put[i].bits, sizeof put[i].bits);
     for (int b = INPUT; b < BUFFERS; b++)
         remember(b);
-    koza_answer a = call(op, input, kernel, output, indices, n);
+    koza_answer a = call(f, input, kernel, output, indices, n);
     const char *memory = expected.number == 0 ? "outputs written" : "memory kept";
-    compare(FUNCTIONS[op], answer_words(expected, memory), answer_words(a, memory_after(a.number).text));
+    compare(FUNCTION[f].name, answer_words(expected, memory), answer_words(a, memory_after(a.number).text));
+}
+
+/* Every function of the operator. */
+static void call_operator(enum op op, lengths n, const element *put, size_t puts, koza_answer expected) {
+    for (int f = 0; f < FUNCTIONS; f++)
+        if (FUNCTION[f].op == op)
+            call_function((enum function)f, n, put, puts, expected);
 }
 
 /* A number that the sheet decides: all functions that take the layer's own operator. */
@@ -725,15 +742,15 @@ static void try_lengths(const layer *l) {
 }
 
 /* A buffer 2^32 elements too long; it is not looked at. */
-static void try_long_buffer(enum op op, int b) {
+static void try_long_buffer(enum function f, int b) {
     char text[KOZA_SHEET_MAX * 2];
-    layer l = base(op, 2);
-    lengths n = lend_all(op, lengths_of(&l));
+    layer l = base(FUNCTION[f].op, 2);
+    lengths n = lend_all(l.op, lengths_of(&l));
     size_t *length = length_of(&n, b), size = b == INDICES ? sizeof(int64_t) : sizeof(float);
     if (*length == 0)
         return;
     *length += LARGEST + 1;
-    about = say("%s, %s of %zu elements", OP_NAMES[op], BUFFER_NAMES[b], *length);
+    about = say("%s, %s of %zu elements", OP_NAMES[l.op], BUFFER_NAMES[b], *length);
     void *memory = reserve(*length * size, PROT_READ | PROT_WRITE);
     if (!memory) {
         not_tried++;
@@ -745,9 +762,9 @@ static void try_long_buffer(enum op op, int b) {
     int64_t *indices = lend(INDICES, lengths_of(&l).output * sizeof *indices);
     for (int i = INPUT; i < BUFFERS; i++)
         remember(i);
-    koza_answer a = call(op, b == INPUT ? memory : input, b == KERNEL ? memory : kernel, b == OUTPUT ? memory : output,
+    koza_answer a = call(f, b == INPUT ? memory : input, b == KERNEL ? memory : kernel, b == OUTPUT ? memory : output,
                          b == INDICES ? memory : indices, n);
-    compare(FUNCTIONS[op], answer_words((koza_answer){.number = 8}, "memory kept"), answer_words(a, memory_after(8).text));
+    compare(FUNCTION[f].name, answer_words((koza_answer){.number = 8}, "memory kept"), answer_words(a, memory_after(8).text));
     munmap(memory, *length * size);
 }
 
@@ -834,11 +851,11 @@ static void try_counts(const layer *l) {
 }
 
 /* ---- what accepted calls leave: document 01's bench cases with one axis, the index of the first of two equal elements, a window past the input's end; with
- * three axes the order of taps, in sums that round otherwise in another order, and in windows */
+ * three axes the order of taps, in sums that round otherwise in another order, and in windows; sums by halves beside running ones */
 
 /* Input and kernel have their sizes by Z, Y, X; the stride is that of each axis. Max pooling is tried at both versions, ceil_torch at 14. */
 static const struct {
-    enum op op;
+    enum function function;
     const char *auto_pad, *rounding;
     int axes;
     uint64_t in[3], k[3], stride;
@@ -846,31 +863,45 @@ static const struct {
     int64_t indices[8];
 } RESULTS[] = {
 #define ONES {1, 1, 1, 1, 1, 1, 1, 1}
-    {TRANSPOSED, "explicit", "floor", 1, {1, 1, 2}, {1, 1, 3}, 2, {1, 2}, {1, 1, 1}, {1, 1, 3, 2, 2}, {0}},
-    {CONVOLUTION, "explicit", "floor", 1, {1, 1, 1}, {1, 1, 1}, 1, {-0.0f}, {1}, {0}, {0}},
-    {CONVOLUTION, "explicit", "floor", 1, {1, 1, 2}, {1, 1, 2}, 1, {4096, 1}, {4096, 1}, {16777216}, {0}},
-    {MAXPOOL, "valid", "floor", 1, {1, 1, 7}, {1, 1, 3}, 1, {-1, 2, 3, 5, -7, 9, 1}, {0}, {3, 5, 5, 9, 9}, {2, 3, 3, 5, 5}},
-    {MAXPOOL, "valid", "floor", 1, {1, 1, 4}, {1, 1, 2}, 2, {-0.0f, 0, 0, -0.0f}, {0}, {-0.0f, 0}, {0, 2}},
-    {MAXPOOL, "valid", "floor", 1, {1, 1, 6}, {1, 1, 3}, 2, {3, -1, 2, 5, -4, -2}, {0}, {3, 5}, {0, 3}},
-    {MAXPOOL, "valid", "ceil", 1, {1, 1, 6}, {1, 1, 3}, 2, {3, -1, 2, 5, -4, -2}, {0}, {3, 5, -2}, {0, 3, 5}},
-    {CONVOLUTION, "explicit", "floor", 3, {2, 2, 2}, {2, 2, 2}, 1, {0x1p24f, -0x1p24f, 1, 0, 1, 0, 1, 0}, ONES, {3}, {0}}, /* 0 or 2 unless kx rises fastest */
-    {CONVOLUTION, "explicit", "floor", 3, {2, 2, 2}, {2, 2, 2}, 1, {0x1p24f, 0, -0x1p24f, 0, 1, 1, 0, 0}, ONES, {2}, {0}}, /* 0 if ky rises slowest */
-    {CONVOLUTION, "explicit", "floor", 3, {3, 1, 2}, {2, 1, 1}, 1, {1, 2, 3, 4, 5, 6}, {1, 10}, {31, 42, 53, 64}, {0}},
-    {TRANSPOSED, "explicit", "floor", 3, {2, 1, 1}, {2, 1, 1}, 1, {1, 2}, {3, 4}, {3, 10, 8}, {0}},
-    {TRANSPOSED, "explicit", "floor", 3, {2, 1, 1}, {1, 1, 2}, 2, {5, 7}, {1, 2}, {5, 10, 0, 0, 7, 14}, {0}}, /* no tap reaches depth 1 */
-    {MAXPOOL, "valid", "floor", 3, {2, 2, 2}, {2, 2, 2}, 1, {1, 5, 5, 2, 5, 0, 0, 0}, {0}, {5}, {1}},
-    {MAXPOOL, "valid", "floor", 3, {2, 2, 2}, {2, 2, 2}, 1, {0, 0, 5, 0, 5, 0, 0, 0}, {0}, {5}, {2}},
-    {MAXPOOL, "valid", "floor", 3, {2, 1, 2}, {2, 1, 1}, 1, {-1, -4, -3, -2}, {0}, {-1, -2}, {0, 3}},
-    {MAXPOOL, "valid", "ceil", 3, {3, 1, 1}, {2, 1, 1}, 2, {4, -1, -3}, {0}, {4, -3}, {0, 2}}, /* the last window holds depth 2 alone */
-    {MAXPOOL, "valid", "ceil_torch", 1, {1, 1, 6}, {1, 1, 3}, 2, {3, -1, 2, 5, -4, -2}, {0}, {3, 5, -2}, {0, 3, 5}},
-    {MAXPOOL, "valid", "ceil_torch", 1, {1, 1, 6}, {1, 1, 1}, 2, {3, -1, 2, 5, -4, -2}, {0}, {3, 2, -4}, {0, 2, 4}}, /* a fourth would start at 6 */
-    {MAXPOOL, "explicit", "ceil_torch", 2, {1, 2, 4}, {1, 1, 1}, 2, {8, 7, 6, 5, 4, 3, 2, 1}, {0}, {8, 6}, {0, 2}}, /* a row and a column less */
-    {MAXPOOL, "explicit", "ceil_torch", 3, {4, 1, 1}, {1, 1, 1}, 2, {4, -1, -3, 9}, {0}, {4, -3}, {0, 2}},
+    {TRANSPOSE, "explicit", "floor", 1, {1, 1, 2}, {1, 1, 3}, 2, {1, 2}, {1, 1, 1}, {1, 1, 3, 2, 2}, {0}},
+    {RUNNING, "explicit", "floor", 1, {1, 1, 1}, {1, 1, 1}, 1, {-0.0f}, {1}, {0}, {0}},
+    {RUNNING, "explicit", "floor", 1, {1, 1, 2}, {1, 1, 2}, 1, {4096, 1}, {4096, 1}, {16777216}, {0}},
+    {POOL, "valid", "floor", 1, {1, 1, 7}, {1, 1, 3}, 1, {-1, 2, 3, 5, -7, 9, 1}, {0}, {3, 5, 5, 9, 9}, {2, 3, 3, 5, 5}},
+    {POOL, "valid", "floor", 1, {1, 1, 4}, {1, 1, 2}, 2, {-0.0f, 0, 0, -0.0f}, {0}, {-0.0f, 0}, {0, 2}},
+    {POOL, "valid", "floor", 1, {1, 1, 6}, {1, 1, 3}, 2, {3, -1, 2, 5, -4, -2}, {0}, {3, 5}, {0, 3}},
+    {POOL, "valid", "ceil", 1, {1, 1, 6}, {1, 1, 3}, 2, {3, -1, 2, 5, -4, -2}, {0}, {3, 5, -2}, {0, 3, 5}},
+    {RUNNING, "explicit", "floor", 3, {2, 2, 2}, {2, 2, 2}, 1, {0x1p24f, -0x1p24f, 1, 0, 1, 0, 1, 0}, ONES, {3}, {0}}, /* 0 or 2 unless kx rises fastest */
+    {RUNNING, "explicit", "floor", 3, {2, 2, 2}, {2, 2, 2}, 1, {0x1p24f, 0, -0x1p24f, 0, 1, 1, 0, 0}, ONES, {2}, {0}}, /* 0 if ky rises slowest */
+    {RUNNING, "explicit", "floor", 3, {3, 1, 2}, {2, 1, 1}, 1, {1, 2, 3, 4, 5, 6}, {1, 10}, {31, 42, 53, 64}, {0}},
+    {HALVED, "explicit", "floor", 1, {1, 1, 1}, {1, 1, 1}, 1, {-0.0f}, {1}, {0}, {0}},
+    {HALVED, "explicit", "floor", 1, {1, 1, 2}, {1, 1, 2}, 1, {4096, 1}, {4096, 1}, {16777216}, {0}},
+    {RUNNING, "explicit", "floor", 1, {1, 1, 3}, {1, 1, 3}, 1, {0x1p24f, 1, 1}, ONES, {16777216}, {0}},
+    {HALVED, "explicit", "floor", 1, {1, 1, 3}, {1, 1, 3}, 1, {0x1p24f, 1, 1}, ONES, {16777216}, {0}}, /* 16777218 with the smaller half first */
+    {RUNNING, "explicit", "floor", 1, {1, 1, 4}, {1, 1, 4}, 1, {0x1p24f, 1, 1, 1}, ONES, {16777216}, {0}},
+    {HALVED, "explicit", "floor", 1, {1, 1, 4}, {1, 1, 4}, 1, {0x1p24f, 1, 1, 1}, ONES, {16777218}, {0}},
+    {RUNNING, "explicit", "floor", 1, {1, 1, 5}, {1, 1, 5}, 1, {0x1p24f, 1, 1, 1, 1}, ONES, {16777216}, {0}},
+    {HALVED, "explicit", "floor", 1, {1, 1, 5}, {1, 1, 5}, 1, {0x1p24f, 1, 1, 1, 1}, ONES, {16777218}, {0}}, /* 16777220 with the smaller half first */
+    {RUNNING, "same_upper", "floor", 1, {1, 1, 4}, {1, 1, 4}, 2, {0x1p24f, 1, 1, 1}, ONES, {16777216, 3}, {0}}, /* a tap outside at each end */
+    {HALVED, "same_upper", "floor", 1, {1, 1, 4}, {1, 1, 4}, 2, {0x1p24f, 1, 1, 1}, ONES, {16777218, 3}, {0}},
+    {RUNNING, "explicit", "floor", 3, {2, 2, 2}, {2, 2, 2}, 1, {-0x1p24f, 0, 0, 1, 0x1p24f, 1, 0, 1}, ONES, {3}, {0}},
+    {HALVED, "explicit", "floor", 3, {2, 2, 2}, {2, 2, 2}, 1, {-0x1p24f, 0, 0, 1, 0x1p24f, 1, 0, 1}, ONES, {1}, {0}}, /* 2 or 3 if the axes rise otherwise */
+    {HALVED, "explicit", "floor", 3, {3, 1, 2}, {2, 1, 1}, 1, {1, 2, 3, 4, 5, 6}, {1, 10}, {31, 42, 53, 64}, {0}},
+    {TRANSPOSE, "explicit", "floor", 3, {2, 1, 1}, {2, 1, 1}, 1, {1, 2}, {3, 4}, {3, 10, 8}, {0}},
+    {TRANSPOSE, "explicit", "floor", 3, {2, 1, 1}, {1, 1, 2}, 2, {5, 7}, {1, 2}, {5, 10, 0, 0, 7, 14}, {0}}, /* no tap reaches depth 1 */
+    {POOL, "valid", "floor", 3, {2, 2, 2}, {2, 2, 2}, 1, {1, 5, 5, 2, 5, 0, 0, 0}, {0}, {5}, {1}},
+    {POOL, "valid", "floor", 3, {2, 2, 2}, {2, 2, 2}, 1, {0, 0, 5, 0, 5, 0, 0, 0}, {0}, {5}, {2}},
+    {POOL, "valid", "floor", 3, {2, 1, 2}, {2, 1, 1}, 1, {-1, -4, -3, -2}, {0}, {-1, -2}, {0, 3}},
+    {POOL, "valid", "ceil", 3, {3, 1, 1}, {2, 1, 1}, 2, {4, -1, -3}, {0}, {4, -3}, {0, 2}}, /* the last window holds depth 2 alone */
+    {POOL, "valid", "ceil_torch", 1, {1, 1, 6}, {1, 1, 3}, 2, {3, -1, 2, 5, -4, -2}, {0}, {3, 5, -2}, {0, 3, 5}},
+    {POOL, "valid", "ceil_torch", 1, {1, 1, 6}, {1, 1, 1}, 2, {3, -1, 2, 5, -4, -2}, {0}, {3, 2, -4}, {0, 2, 4}}, /* a fourth would start at 6 */
+    {POOL, "explicit", "ceil_torch", 2, {1, 2, 4}, {1, 1, 1}, 2, {8, 7, 6, 5, 4, 3, 2, 1}, {0}, {8, 6}, {0, 2}}, /* a row and a column less */
+    {POOL, "explicit", "ceil_torch", 3, {4, 1, 1}, {1, 1, 1}, 2, {4, -1, -3, 9}, {0}, {4, -3}, {0, 2}},
 };
 
 static void try_result(size_t i, int version) {
     char text[KOZA_SHEET_MAX * 2];
-    layer l = plain(RESULTS[i].op, RESULTS[i].axes);
+    enum function f = RESULTS[i].function;
+    layer l = plain(FUNCTION[f].op, RESULTS[i].axes);
     l.version = version;
     l.auto_pad = RESULTS[i].auto_pad;
     l.rounding = RESULTS[i].rounding;
@@ -887,18 +918,18 @@ static void try_result(size_t i, int version) {
         put[k] = (element){k >= inputs, k < inputs ? k : k - inputs, 0};
         memcpy(&put[k].bits, k < inputs ? &RESULTS[i].input[k] : &RESULTS[i].kernel[k - inputs], sizeof put[k].bits);
     }
-    call_operator(l.op, lend_all(l.op, lengths_of(&l)), put, inputs + kernels, (koza_answer){0});
+    call_function(f, lend_all(l.op, lengths_of(&l)), put, inputs + kernels, (koza_answer){0});
     const unsigned char *output = lent[OUTPUT].end - lent[OUTPUT].bytes, *indices = lent[INDICES].end - lent[INDICES].bytes;
     int same = memcmp(output, RESULTS[i].output, outputs * sizeof(float)) == 0;
     same = same && (l.op != MAXPOOL || memcmp(indices, RESULTS[i].indices, outputs * sizeof(int64_t)) == 0);
-    check(FUNCTIONS[l.op], say("the outputs of the table"), say(same ? "the outputs of the table" : "other outputs"));
+    check(FUNCTION[f].name, say("the outputs of the table"), say(same ? "the outputs of the table" : "other outputs"));
 }
 
 static void try_results(void) {
     for (size_t i = 0; i < COUNT(RESULTS); i++) {
         if (strcmp(RESULTS[i].rounding, "ceil_torch") != 0)
             try_result(i, 8);
-        if (RESULTS[i].op == MAXPOOL)
+        if (RESULTS[i].function == POOL)
             try_result(i, 14);
     }
 }
@@ -1405,11 +1436,12 @@ static void try_operators(void) {
             layer l = base((enum op)op, axes);
             try_operator(&l);
         }
-        for (int b = INPUT; b < BUFFERS; b++)
-            try_long_buffer((enum op)op, b);
         try_crlf(base((enum op)op, 2));
         try_longest(base((enum op)op, 3));
     }
+    for (int f = 0; f < FUNCTIONS; f++)
+        for (int b = INPUT; b < BUFFERS; b++)
+            try_long_buffer((enum function)f, b);
     for (int axes = 1; axes <= 3; axes++)
         try_version_14(axes);
     try_crlf(base_14(2));

@@ -17,9 +17,9 @@ enum { LIMIT = 3072, CONTROL_BYTES = 4096 };
 
 /* ---- the call at hand: its arguments, its number */
 
-enum function { VERSION, SHAPE, LENGTHS, CONVOLUTION, TRANSPOSED, MAXPOOL, REWRITE, PLANE, PEAK, CONTROL, FUNCTIONS };
-static const char *const NAMES[FUNCTIONS] = {"koza_version", "koza_shape", "koza_lengths", "koza_convolution", "koza_transposed",
-                                             "koza_maxpool", "koza_rewrite", "koza_plane", "koza_peak", "an array of 4,096 bytes"};
+enum function { VERSION, SHAPE, LENGTHS, CONVOLUTION, HALVED, TRANSPOSED, MAXPOOL, REWRITE, PLANE, PEAK, CONTROL, FUNCTIONS };
+static const char *const NAMES[FUNCTIONS] = {"koza_version", "koza_shape", "koza_lengths", "koza_convolution", "koza_convolution_halved",
+                                             "koza_transposed", "koza_maxpool", "koza_rewrite", "koza_plane", "koza_peak", "an array of 4,096 bytes"};
 
 enum { ELEMENTS = 1 << 19 };
 static float input[ELEMENTS], kernel[ELEMENTS], output[ELEMENTS];
@@ -93,10 +93,9 @@ static uint32_t control(void) {
 static uint32_t (*volatile version[2])(void) = {no_version, koza_version};
 static koza_shape_answer (*volatile shape[2])(const uint8_t *, size_t) = {no_shape, koza_shape};
 static koza_lengths_answer (*volatile lengths[2])(const uint8_t *, size_t) = {no_lengths, koza_lengths};
-static koza_answer (*volatile convolution[2])(const uint8_t *, size_t, const float *, size_t, const float *, size_t, float *,
-                                              size_t) = {no_sums, koza_convolution};
-static koza_answer (*volatile transposed[2])(const uint8_t *, size_t, const float *, size_t, const float *, size_t, float *,
-                                             size_t) = {no_sums, koza_transposed};
+typedef koza_answer sums(const uint8_t *, size_t, const float *, size_t, const float *, size_t, float *, size_t);
+static sums *volatile convolution[2] = {no_sums, koza_convolution}, *volatile halved[2] = {no_sums, koza_convolution_halved},
+                      *volatile transposed[2] = {no_sums, koza_transposed};
 static koza_answer (*volatile maxpool[2])(const uint8_t *, size_t, const float *, size_t, float *, size_t, int64_t *,
                                           size_t) = {no_maxpool, koza_maxpool};
 static koza_written (*volatile rewrite[2])(const uint8_t *, size_t, uint8_t *, size_t) = {no_rewrite, koza_rewrite};
@@ -115,6 +114,7 @@ static void make_call(void) {
     case SHAPE: at.number = shape[r](s, n).number; break;
     case LENGTHS: at.number = lengths[r](s, n).number; break;
     case CONVOLUTION: at.number = convolution[r](s, n, input, at.input_len, kernel, at.kernel_len, output, at.output_len).number; break;
+    case HALVED: at.number = halved[r](s, n, input, at.input_len, kernel, at.kernel_len, output, at.output_len).number; break;
     case TRANSPOSED: at.number = transposed[r](s, n, input, at.input_len, kernel, at.kernel_len, output, at.output_len).number; break;
     case MAXPOOL: at.number = maxpool[r](s, n, input, at.input_len, output, at.output_len, indices, at.indices_len).number; break;
     case REWRITE: at.number = rewrite[r](s, n, at.buffer, at.buffer_len).number; break;
@@ -191,11 +191,15 @@ static const uint32_t OUTPUTS[] = {1, 2, 5, 8, 40}, STRIDES[] = {1, 2, 3}, DILAT
 
 typedef struct {
     int op, version, axes, mode; /* version 14: maxpool, with ceil_torch */
-    uint32_t outputs, stride, dilation, pad, kernel;
+    uint32_t outputs, stride, dilation, pad, kernel, channels; /* 2 channels unless it is a convolution */
 } layer;
 
 static void add_word(const char *key, const char *word) {
     at.sheet_len += (size_t)sprintf((char *)at.sheet + at.sheet_len, "%s=%s\n", key, word);
+}
+
+static void add_channels(const char *head, uint32_t channels) {
+    at.sheet_len += (size_t)sprintf((char *)at.sheet + at.sheet_len, "%s%" PRIu32 ",", head, channels);
 }
 
 /* A list that ends in a number of X and, before it, one of each other axis; with one axis any number. */
@@ -217,8 +221,11 @@ static void write_sheet(layer l) {
         add_word("version", "14");
     add_word("op", OPS[l.op]);
     add_list("axes=", 1, 0, (uint32_t)l.axes);
-    add_list("input=2,2,", l.axes, rows, in);
-    add_list(l.op == 2 ? "kernel=" : "kernel=1,2,2,", l.axes, l.kernel, l.kernel);
+    add_channels("input=2,", l.channels);
+    add_list("", l.axes, rows, in);
+    if (l.op != 2)
+        add_channels("kernel=1,2,", l.channels);
+    add_list(l.op == 2 ? "kernel=" : "", l.axes, l.kernel, l.kernel);
     add_list("strides=", l.axes, l.stride, l.stride);
     add_list("dilations=", l.axes, l.dilation, l.dilation);
     add_word("auto_pad", MODES[l.mode]);
@@ -230,7 +237,10 @@ static void write_sheet(layer l) {
 }
 
 static void call_operator(int op) {
-    measure((enum function)(CONVOLUTION + op));
+    const enum function own[] = {CONVOLUTION, TRANSPOSED, MAXPOOL};
+    measure(own[op]);
+    if (op == 0)
+        measure(HALVED);
 }
 
 /* The sheet at hand, by every function that reads one; where it is accepted also with a bad element in input or kernel, and with a length too short. */
@@ -265,7 +275,7 @@ static void call_rewrite(void) {
 }
 
 static void call_layers(int op, int version, int axes) {
-    layer l = {.op = op, .version = version, .axes = axes};
+    layer l = {.op = op, .version = version, .axes = axes, .channels = 2};
     for (size_t i = 0; i < COUNT(OUTPUTS) * COUNT(STRIDES) * COUNT(DILATIONS) * COUNT(PADS) * COUNT(KERNELS) * COUNT(MODES); i++) {
         size_t rest = i;
         l.outputs = OUTPUTS[rest % COUNT(OUTPUTS)], rest /= COUNT(OUTPUTS);
@@ -280,10 +290,21 @@ static void call_layers(int op, int version, int axes) {
     }
 }
 
+/* Convolutions with 4,096 taps, all inside and not: a run of them is cut in two twelve times. */
+static void call_most_taps(int axes) {
+    layer l = {.version = 8, .axes = axes, .stride = 1, .dilation = 1, .kernel = axes == 3 ? 16 : 64, .channels = axes == 1 ? 64 : 1};
+    for (size_t i = 0; i < COUNT(OUTPUTS); i++)
+        for (l.pad = 0; l.pad <= 1; l.pad++) {
+            l.outputs = OUTPUTS[i];
+            write_sheet(l);
+            call_with_sheet(0);
+        }
+}
+
 /* Each byte of a sheet in turn is another one, or the sheet ends before it. */
 static void call_bad_sheets(int op, int version, int axes) {
     const uint8_t others[] = {0, '\n', ',', '-', '0', '9', 'x'};
-    write_sheet((layer){op, version, axes, 0, 5, 1, 1, 1, 3});
+    write_sheet((layer){op, version, axes, 0, 5, 1, 1, 1, 3, 2});
     for (size_t i = 0, len = at.sheet_len; i < len; i++) {
         uint8_t byte = at.sheet[i];
         for (size_t o = 0; o < COUNT(others); o++) {
@@ -351,7 +372,7 @@ static void call_peaks(void) {
 static int report(void) {
     int failed = 0;
     for (int f = 0; f < CONTROL; f++) {
-        printf("%-17s %5zu bytes at most, %lu calls, %lu of them refused\n", NAMES[f], measured[f].most, measured[f].calls, measured[f].refused);
+        printf("%-23s %5zu bytes at most, %lu calls, %lu of them refused\n", NAMES[f], measured[f].most, measured[f].calls, measured[f].refused);
         if (measured[f].most >= LIMIT)
             failed = printf("%s takes %d bytes or more\n", NAMES[f], LIMIT);
     }
@@ -372,6 +393,7 @@ int main(void) {
             call_layers(op, 8, axes);
             call_bad_sheets(op, 8, axes);
         }
+        call_most_taps(axes);
         call_layers(2, 14, axes);
         call_bad_sheets(2, 14, axes);
         for (int pool = 0; pool < 2; pool++)
