@@ -127,18 +127,18 @@ typedef struct {
 /* ---- the operators */
 
 /* Tensors are row-major, as written here for three axes; with two axes every Z is left out, with one every Z and Y. What a call with number 0 leaves for image
- * n of the N depends on the sheet, that image and the kernel alone, and is what the call on it alone leaves, with N 1; but an index with axis 0 or -R, R being
- * the number of axes plus 2, is n*C*Z*Y*X more. A bad element in any image refuses the whole call, number 9. */
+ * n of the N depends on the function, the sheet, that image and the kernel alone, and is what the call on it alone leaves, with N 1; but an index with axis 0
+ * or -R, R being the number of axes plus 2, is n*C*Z*Y*X more. A bad element in any image refuses the whole call, number 9. */
 
 /* Input [N, C, Z, Y, X], kernel [G, O, I, KZ, KY, KX], output [N, G*O, OZ, OY, OX]. Numbers 0 to 9 and 20 to 23. */
 koza_answer koza_convolution(const uint8_t *sheet, size_t sheet_len, const float *input, size_t input_len, const float *kernel, size_t kernel_len,
                              float *output, size_t output_len);
 
-/* As koza_convolution, in answers, lengths and refusals too, but with another summing profile, so that bits may differ: the K = I*KZ*KY*KX taps of an output
- * are cut in two, the first part having the larger half, each part is summed the same way, and the two results are added. It is for kernels of many taps whose
- * sums of whole numbers have to be near. Where all elements are whole numbers of magnitude up to 4,096, an output is at most K*h from the exact sum, h being
- * the smallest with 2^h >= K, besides the (K-1)*(K+2)/2 that hold for koza_convolution: 36 beside 44 for K 9, 525 beside 2,849 for 75, 3,600 beside 80,199
- * for 400, 49,152 beside 8,390,655 for 4,096. It takes longer. */
+/* As koza_convolution, in answers, lengths and refusals too, but with another summing profile, so that bits may differ. The K = I*KZ*KY*KX taps of an output,
+ * by i, kz, ky, kx rising, those outside the input as +0, are cut in two, the first part having the larger half, each half is summed the same way, and the two
+ * results are added; a single tap is its product added to +0. Take it for kernels of many taps over whole numbers: where every element is one, of magnitude up
+ * to 4,096, an output is at most K*h from the exact sum, h being the smallest with 2^h >= K, and also at most koza_convolution's (K-1)*(K+2)/2. That is 36
+ * against 44 for K 9, 525 against 2,849 for 75, 3,600 against 80,199 for 400, 49,152 against 8,390,655 for 4,096. It takes longer. */
 koza_answer koza_convolution_halved(const uint8_t *sheet, size_t sheet_len, const float *input, size_t input_len, const float *kernel, size_t kernel_len,
                                     float *output, size_t output_len);
 

@@ -21,9 +21,9 @@
 //! # }
 //! ```
 //!
-//! What a call leaves for one of the N images of an input depends on the sheet, that image and the kernel alone, and is what the call on it alone leaves,
-//! with N 1; but an index with axis 0 or -R, R being the number of axes plus 2, counts the images before its own. A bad element in any image refuses the
-//! whole call.
+//! What a call leaves for one of the N images of an input depends on the function, the sheet, that image and the kernel alone, and is what the call on it
+//! alone leaves, with N 1; but an index with axis 0 or -R, R being the number of axes plus 2, counts the images before its own. A bad element in any image
+//! refuses the whole call.
 //!
 //! What is proved holds under the assumptions of `include/kozamyure.h`. Slices and the rules of borrowing exclude most faults: pointers are good for
 //! their lengths and aligned, and a buffer that is written overlaps no other and is used by no other thread. These assumptions remain:
@@ -113,11 +113,11 @@ pub fn convolution(sheet: &[u8], input: &[f32], kernel: &[f32], output: &mut [f3
     written(answers::convolution(sheet, input, kernel, output))
 }
 
-/// As [`convolution`], in refusals too, but with another summing profile, so that bits may differ: the K = I·KZ·KY·KX taps of an output are cut in two, the
-/// first part having the larger half, each part is summed the same way, and the two results are added. It is for kernels of many taps whose sums of whole
-/// numbers have to be near. Where all elements are whole numbers of magnitude up to 4,096, an output is at most K·h from the exact sum, h being the smallest
-/// with 2^h >= K, besides the (K - 1)·(K + 2)/2 that hold for [`convolution`]: 36 beside 44 for K 9, 525 beside 2,849 for 75, 3,600 beside 80,199 for 400,
-/// 49,152 beside 8,390,655 for 4,096. It takes longer.
+/// As [`convolution`], in refusals too, but with another summing profile, so that bits may differ. The K = I·KZ·KY·KX taps of an output, by i, kz, ky, kx
+/// rising, those outside the input as +0, are cut in two, the first part having the larger half, each half is summed the same way, and the two results are
+/// added; a single tap is its product added to +0. Take it for kernels of many taps over whole numbers: where every element is one, of magnitude up to
+/// 4,096, an output is at most K·h from the exact sum, h being the smallest with 2^h >= K, and also at most the (K - 1)·(K + 2)/2 of [`convolution`]. That
+/// is 36 against 44 for K 9, 525 against 2,849 for 75, 3,600 against 80,199 for 400, 49,152 against 8,390,655 for 4,096. It takes longer.
 pub fn convolution_halved(sheet: &[u8], input: &[f32], kernel: &[f32], output: &mut [f32]) -> Result<(), Error> {
     written(answers::convolution_halved(sheet, input, kernel, output))
 }

@@ -1,8 +1,8 @@
 //! Times each operator of the static library beside baselines on the same inputs: the same loops in plain Rust, in C at -O2 and at -O3, and the limit, which
 //! is C at -O3 tap by tap over whole rows of outputs. All sum in the same order; outputs are compared bit for bit. Prints the best runs, the ratio of the
 //! library's time to plain Rust's, and the share of the limit's speed that the library reaches; for a convolution also the share of its taps that lie inside
-//! the input, and the library's time for each of these. With a path it also writes the ratios as a bar chart. Last come the two summing profiles of convolution,
-//! their times and the largest distances from exact sums.
+//! the input, and the library's time for each of these. With a path it also writes the ratios as a bar chart. Last come the two summing profiles of
+//! convolution: times, and the largest distances from exact sums beside their bounds.
 //! usage: benchmark [CHART.svg]
 use kozamyure_tests::baseline::{c_o2, c_o3, c_rows, plain_rust, Call, Outputs};
 use kozamyure_tests::chart::{chart, Row};
