@@ -477,7 +477,7 @@ impl Sum {
 
     fn add(&mut self, value: f32, weight: f32) {
         self.running += value * weight;
-        let p = value as i128 * weight as i128;
+        let p = i128::from(value as i64) * i128::from(weight as i64);
         self.exact += p;
         self.magnitudes += p.abs();
     }
