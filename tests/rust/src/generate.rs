@@ -504,8 +504,9 @@ pub fn largest() -> [Layer; 5] {
     ]
 }
 
-/// Convolutions with as many taps as are taken, or a few less, so that runs of them have halves of two sizes. Each has taps outside.
-pub fn most_taps() -> [Layer; 7] {
+/// Convolutions with every number of taps up to 64, and with as many as are taken or a few less, so that runs of them have halves of two sizes. Each has taps
+/// outside.
+pub fn by_taps() -> Vec<Layer> {
     let layer = |i: u64, kernels: &[u64]| {
         let mut l = Layer { c: i, o: 2, i, ..Layer::new(Op::Convolution, kernels.len() as u64) };
         for (a, kernel) in l.used_mut().iter_mut().zip(kernels) {
@@ -513,7 +514,7 @@ pub fn most_taps() -> [Layer; 7] {
         }
         l
     };
-    [
+    let most = [
         layer(64, &[64]),
         layer(1021, &[4]),
         layer(1, &[64, 64]),
@@ -521,7 +522,8 @@ pub fn most_taps() -> [Layer; 7] {
         layer(1, &[63, 63]),
         layer(1, &[16, 16, 16]),
         layer(13, &[5, 7, 9]),
-    ]
+    ];
+    (1..=64).map(|taps| layer(1, &[taps])).chain(most).collect()
 }
 
 /// A length that is seldom wrong.
