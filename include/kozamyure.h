@@ -31,7 +31,7 @@ extern "C" {
 
 /* The version of this header. koza_version() tells that of the archive: a program that was compiled with another header finds out. */
 #define KOZA_VERSION_MAJOR 2
-#define KOZA_VERSION_MINOR 1
+#define KOZA_VERSION_MINOR 2
 #define KOZA_VERSION_PATCH 0
 #define KOZA_VERSION (KOZA_VERSION_MAJOR * 10000 + KOZA_VERSION_MINOR * 100 + KOZA_VERSION_PATCH)
 

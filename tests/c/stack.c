@@ -13,7 +13,8 @@
 #include <ucontext.h>
 
 #define COUNT(table) (sizeof(table) / sizeof(table)[0])
-enum { LIMIT = 3072, CONTROL_BYTES = 4096 };
+/* Halved sums of 4,096 taps are 13 calls deep. */
+enum { LIMIT = 3072, HALVED_LIMIT = 4608, CONTROL_BYTES = 4096 };
 
 /* ---- the call at hand: its arguments, its number */
 
@@ -373,8 +374,9 @@ static int report(void) {
     int failed = 0;
     for (int f = 0; f < CONTROL; f++) {
         printf("%-23s %5zu bytes at most, %lu calls, %lu of them refused\n", NAMES[f], measured[f].most, measured[f].calls, measured[f].refused);
-        if (measured[f].most >= LIMIT)
-            failed = printf("%s takes %d bytes or more\n", NAMES[f], LIMIT);
+        size_t limit = f == HALVED ? HALVED_LIMIT : LIMIT;
+        if (measured[f].most >= limit)
+            failed = printf("%s takes %zu bytes or more\n", NAMES[f], limit);
     }
     printf("%s: measured as %zu\n", NAMES[CONTROL], measured[CONTROL].most);
     if (measured[CONTROL].most < CONTROL_BYTES || measured[CONTROL].most > CONTROL_BYTES + 256)

@@ -29,7 +29,7 @@ pub fn convolution(sheet: &[u8], input: &[f32], kernel: &[f32], output: &mut [f3
     sums(boundary::koza_convolution, sheet, input, kernel, output)
 }
 
-/// Convolution with sums by halves: the answers of [`convolution`]. `output` is written only with number 0.
+/// Convolution with halved sums: the answers of [`convolution`]. `output` is written only with number 0.
 pub fn convolution_halved(sheet: &[u8], input: &[f32], kernel: &[f32], output: &mut [f32]) -> Answer {
     sums(boundary::koza_convolution_halved, sheet, input, kernel, output)
 }

@@ -2,19 +2,18 @@
 -- tensors (`tap-bounds`).
 use mathlib.Core.Path.{_≡_, refl, sym, ap, ap₂, _∙_}
 use mathlib.Core.List.{List}
-use Prim.Native.Nat.{ℕ, _+_, _*_, _/_, _%_, _≤_, _<_}
-use native.Mathlib.Nat.{mul-assoc, mul-pos, le-of-eq, le-mul-of-pos-right, mod-lt, div-add-mod'}
+use Prim.Native.Nat.{ℕ, _+_, _*_, _%_, _≤_, _<_}
+use native.Mathlib.Nat.{mul-assoc, mul-pos, le-of-eq, le-mul-of-pos-right, mod-lt}
 use native.Mathlib.Omega.{arith}
 use lib.ListN.{length}
 use lib.Ieee.{Float}
-use Rattle.layer.proofs.Places.{place-within, div-within}
+use Rattle.layer.proofs.Places.{place-within}
 use Rattle.taps.specs.declared.Tap.{Tap}
 use Rattle.taps.specs.declared.Tap.the-variants.{Outside, At}
 use Rattle.taps.specs.Joins.{forward, both}
 use Rattle.taps.proofs.Exact.{both-outer, both-inner, both-at}
 use Rattle.shape.specs.declared.Shape.{Shape}
-use Rattle.shape.specs.Volumes.{inputRows, kernelRows}
-use Rattle.shape.proofs.Volumes.{input-rows-are, kernel-rows-are}
+use Rattle.shape.proofs.Volumes.{input-rows-are}
 use Rattle.tensor.specs.Table.{read, plusZero}
 use Rattle.sums.specs.declared.Profile.the-variants.{Halved}
 use Rattle.sums.specs.Taps.{Place, pair, tapAt, addTap, halved, insideOnly, outputOf}
@@ -22,11 +21,11 @@ use Rattle.sums.proofs.Inside.{none-same}
 use Rattle.sums.proofs.Halved.{halved-same}
 use Rattle.sums.proofs.Outputs.{output-halved}
 use Rattle.call.specs.Fitting.{Fitting}
-use Rattle.call.proofs.Planes.{line-flat, taps-are}
+use Rattle.call.proofs.Planes.{line-flat}
 use Rattle.places.specs.declared.Line.{Line}
 use Rattle.places.specs.Places.{placed, placeOf}
 use Rattle.places.specs.Lines.{insideTaps, LineOf}
-use Rattle.places.proofs.Taps.{row-number-is, tapNumber, place-at, placed-none, placed-pair}
+use Rattle.places.proofs.Taps.{row-number-is, number-of-parts, taps-by-axes, channel-below, tapNumber, place-at, placed-none, placed-pair}
 use Rattle.places.proofs.Bounds.{line-bounds}
 use Rattle.halved.specs.declared.Output.{Output}
 use Rattle.halved.specs.Outputs.{outputAt, rowOfTap, depthOfTap, channelOfTap, liesOn, outputTaps, Held}
@@ -114,20 +113,10 @@ placed-same : {a b v w : ℕ} {y z : Tap} → a ≡ b → v ≡ w → y ≡ z �
 placed-same e g k = rw (e, g, k)
 
 module _ (s : Shape) (input kernel : List Float) (h : Fitting s input kernel) (f : Line) (g : LineOf s f) where
-  taps-by-axes : s .taps ≡ s .i * s .z .kernel * s .y .kernel * s .x .kernel
-  taps-by-axes =
-      taps-are s (h .shape)
-      ∙ sym (mul-assoc (s .i) (kernelRows s) (s .x .kernel))
-      ∙ ap (λ (n : ℕ). n * s .x .kernel) (ap (λ (n : ℕ). s .i * n) (kernel-rows-are s) ∙ sym (mul-assoc (s .i) (s .z .kernel) (s .y .kernel)))
-
-  channel-below : (t : ℕ) → t < s .taps → t / s .x .kernel / s .y .kernel / s .z .kernel < s .i
-  channel-below t l =
-      div-within (s .i) (s .z .kernel) (div-within (s .i * s .z .kernel) (s .y .kernel) (div-within (s .i * s .z .kernel * s .y .kernel) (s .x .kernel) (rw taps-by-axes at l)))
-
   pub taps-1 : 1 ≤ s .taps
   taps-1 =
       let a = h .shape .sound in
-      rw taps-by-axes (mul-pos (mul-pos (mul-pos (h .shape .i-1) (a .z .kernel-1)) (a .y .kernel-1)) (a .x .kernel-1))
+      rw (taps-by-axes s (h .shape)) (mul-pos (mul-pos (mul-pos (h .shape .i-1) (a .z .kernel-1)) (a .y .kernel-1)) (a .x .kernel-1))
 
   -- its taps lie in the tensors
   pub held : (p : ℕ) → Held (outputAt s f p) (s .taps) (length input) (length kernel)
@@ -139,7 +128,7 @@ module _ (s : Shape) (input kernel : List Float) (h : Fitting s input kernel) (f
         z-kernel = a .z .kernel-1;
         y-kernel = a .y .kernel-1;
         x-kernel = a .x .kernel-1;
-        plane = λ t l. omega (arith, b .plane, g .plane-is, channel-below t l);
+        plane = λ t l. omega (arith, b .plane, g .plane-is, channel-below s (h .shape) l);
         inputs-in =
             le-of-eq (ap (λ (n : ℕ). n * s .x .input) (mul-assoc (s .n * s .c) (s .z .input) (s .y .input) ∙ ap (λ (n : ℕ). s .n * s .c * n) (sym (input-rows-are s)))
             ∙ sym (h .input-length ∙ a .inputs-is));
@@ -150,12 +139,7 @@ module _ (s : Shape) (input kernel : List Float) (h : Fitting s input kernel) (f
 
   -- a tap's number by its channel, depth, row and column
   number-is : (t : ℕ) → let o = outputAt s f 0 in tapNumber s (channelOfTap o t) (depthOfTap o t % s .z .kernel) (rowOfTap o t % s .y .kernel) (t % s .x .kernel) ≡ t
-  number-is t =
-      let o = outputAt s f 0 in
-      sym (row-number-is s (channelOfTap o t) (depthOfTap o t % s .z .kernel) (rowOfTap o t % s .y .kernel) (t % s .x .kernel))
-      ∙ ap (λ (n : ℕ). (n * s .y .kernel + rowOfTap o t % s .y .kernel) * s .x .kernel + t % s .x .kernel) (div-add-mod' (depthOfTap o t) (s .z .kernel))
-      ∙ ap (λ (n : ℕ). n * s .x .kernel + t % s .x .kernel) (div-add-mod' (rowOfTap o t) (s .y .kernel))
-      ∙ div-add-mod' t (s .x .kernel)
+  number-is t = sym (row-number-is s _ _ _ _) ∙ number-of-parts s t
 
   -- its taps are those of its number
   taps-are-inside : {p : ℕ} → p < s .x .out → (t : ℕ) → outputTaps input kernel (outputAt s f p) t ≡ insideTaps s input kernel (f .number * s .x .out + p) t

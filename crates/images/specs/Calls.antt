@@ -23,8 +23,8 @@ use Rattle.images.specs.Images.{imageOf, oneImage}
 abbrev pub SameImage : Layer → ℕ → List Float → List Float → Type 0
 SameImage l n a b = imageOf (l .n) n a ≡ imageOf (l .n) n b
 
--- "For any two accepted calls of one operator with the same layer and kernel and the same image n, every output .. of image n is the same, whatever the other
--- images hold", "read for two calls of one profile": a convolution of either kind, by its place function. The outputs may hold anything at entry.
+-- "For any two accepted calls of one operator and one profile with the same layer and kernel and the same image n, every output .. of image n is the same, whatever
+-- the other images hold": a convolution of either kind, by its place function. The outputs may hold anything at entry.
 abbrev pub SameOutputs : Op → Profile → (Shape → ℕ → ℕ → Place) → Type 0
 SameOutputs op profile place =
     (l : Layer) (a b kernel before-a before-b : List Float) (n : ℕ) → n < l .n

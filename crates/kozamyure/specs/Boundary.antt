@@ -120,7 +120,7 @@ unfoldable pub rewriteBuffer : Read → List ℕ → List ℕ
 rewriteBuffer (Sheet l) buffer = bufferAfter l buffer
 rewriteBuffer (Refused number line) buffer = buffer
 
--- ---- the version of the library, 2.1.0
+-- ---- the version of the library, 2.2.0
 
 abbrev pub version : ℕ
-version = 2 * 10000 + 1 * 100 + 0
+version = 2 * 10000 + 2 * 100 + 0

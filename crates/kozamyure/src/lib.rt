@@ -353,5 +353,5 @@ pub extern "C" fn koza_rewrite(sheet: &[u8], buffer: &mut [u8]) -> SheetWritten
 pub extern "C" fn koza_version() -> u32
     ensures { λ r. ⌜ r ≡ version ⌝ }
 {
-    20100
+    20200
 }

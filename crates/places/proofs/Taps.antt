@@ -6,7 +6,7 @@ use Prim.Native.Nat.{ℕ, _+_, _-_, _*_, _/_, _%_, _≤_, _<_}
 use native.Mathlib.Nat.{mul-assoc, mod-lt, div-add-mod'}
 use native.Mathlib.Omega.{arith}
 use lib.Ieee.{Float}
-use Rattle.layer.proofs.Places.{place-div, place-mod, place-within, part-within}
+use Rattle.layer.proofs.Places.{place-div, place-mod, place-within, part-within, div-within}
 use Rattle.taps.specs.declared.Tap.{Tap}
 use Rattle.taps.specs.declared.Tap.the-variants.{Outside, At}
 use Rattle.taps.specs.Taps.{tapInside}
@@ -40,6 +40,21 @@ pub row-in-volume : (s : Shape) {a b end : ℕ} → a < s .z .kernel → b < s .
 row-in-volume s {a} {b} ha hb he =
     let u = part-within {a = a * s .y .kernel + b} {n = s .z .kernel * s .y .kernel} (s .x .kernel) (place-within ha hb) in
     rw (line-flat a (s .y .kernel) (s .x .kernel) b _, kernel-rows-are s) (omega arith)
+
+-- any tap by its channel, depth, row and column
+pub number-of-parts : (s : Shape) (t : ℕ)
+    → ((t / s .x .kernel / s .y .kernel / s .z .kernel * s .z .kernel + t / s .x .kernel / s .y .kernel % s .z .kernel) * s .y .kernel + t / s .x .kernel % s .y .kernel) * s .x .kernel + t % s .x .kernel ≡ t
+number-of-parts s t =
+    ap (λ (n : ℕ). (n * s .y .kernel + t / s .x .kernel % s .y .kernel) * s .x .kernel + t % s .x .kernel) (div-add-mod' (t / s .x .kernel / s .y .kernel) (s .z .kernel))
+    ∙ ap (λ (n : ℕ). n * s .x .kernel + t % s .x .kernel) (div-add-mod' (t / s .x .kernel) (s .y .kernel))
+    ∙ div-add-mod' t (s .x .kernel)
+
+pub taps-by-axes : (s : Shape) → Grouped s → s .taps ≡ s .i * s .z .kernel * s .y .kernel * s .x .kernel
+taps-by-axes s h = h .taps-is ∙ ap (λ (n : ℕ). n * s .x .kernel) (ap (λ (n : ℕ). s .i * n) (kernel-rows-are s) ∙ sym (mul-assoc (s .i) (s .z .kernel) (s .y .kernel)))
+
+pub channel-below : (s : Shape) → Grouped s → {t : ℕ} → t < s .taps → t / s .x .kernel / s .y .kernel / s .z .kernel < s .i
+channel-below s h l =
+    div-within (s .i) (s .z .kernel) (div-within (s .i * s .z .kernel) (s .y .kernel) (div-within (s .i * s .z .kernel * s .y .kernel) (s .x .kernel) (rw (taps-by-axes s h) at l)))
 
 -- tap k of row b of depth a of channel i, of output p of a line
 abbrev pub tapNumber : Shape → ℕ → ℕ → ℕ → ℕ → ℕ

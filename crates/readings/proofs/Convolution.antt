@@ -1,9 +1,10 @@
 -- Convolution in document 01's words: the places of its taps, for output (n, group g, o, z, y, x) and tap (i, kz, ky, kx), each at its row-major number, and
--- the sum over them by four nested loops.
+-- the sum over them by four nested loops; and the run of a halved sum.
 use mathlib.Core.Path.{_≡_, sym, ap, _∙_}
 use mathlib.Core.List.{List}
-use Prim.Native.Nat.{ℕ, _+_, _*_, _≤_, _<_}
-use native.Mathlib.Nat.{add-mul, mul-assoc, add-assoc}
+use Prim.Native.Nat.{ℕ, _+_, _*_, _/_, _≤_, _<_}
+use native.Mathlib.Nat.{add-mul, mul-assoc, add-assoc, zero-add, mod-lt}
+use native.Mathlib.Omega.{arith}
 use borrow.Author.Tests.{eqb-true, eq-eqb}
 use lib.Ieee.{Float}
 use Rattle.sizes.specs.declared.Span.{Span}
@@ -14,9 +15,12 @@ use Rattle.shape.specs.declared.Shape.{Shape}
 use Rattle.shape.specs.Facts.{Grouped}
 use Rattle.shape.specs.Volumes.{kernelRows}
 use Rattle.tensor.specs.Table.{plusZero}
-use Rattle.sums.specs.declared.Profile.the-variants.{Running}
-use Rattle.sums.specs.Taps.{Place, outside, at, tapAt, addTap, outputOf}
+use Rattle.sums.specs.declared.Profile.the-variants.{Running, Halved}
+use Rattle.sums.specs.Taps.{Place, outside, at, Factors, tapAt, addTap, halved, insideOnly, insideTapsOf, outputOf}
+use Rattle.sums.proofs.Outputs.{output-halved}
+use Rattle.sums.proofs.Halved.{halved-same}
 use Rattle.places.specs.Places.{placed, placeOf}
+use Rattle.places.proofs.Taps.{number-of-parts, channel-below}
 use Rattle.readings.proofs.Shared.{outputNumber, tapNumber, inputNumber, flat-plane, onAxes, tap-parts, lies-inside, lies-outside, rising, nested-sum}
 
 -- "Tap ky lies at input row y·s - begin + ky·d": q is that row, or depth or column, of the input
@@ -78,3 +82,23 @@ pub output-reading : (s : Shape) (n : ℕ) {g o z y x : ℕ} → Grouped s → g
 output-reading s n {g} {o} {z} {y} {x} h hg ho hz hy hx input kernel =
     nested-sum (placeOf s) s h input kernel (outputNumber s n g o z y x) (tapPlace s n g o z y x)
     (λ i kz ky kx hkz hky hkx. reading s n h hg ho hz hy hx i hkz hky hkx)
+
+-- ---- C-17: "a second summing profile for convolution, over all K taps, those outside the input included as +0 without a product": the run that the halved sum cuts, by
+-- 01's indices. Any run that has tap (i, kz, ky, kx) at its row-major number, by i, then kz, then ky, then kx, all rising, is that run.
+pub halved-reading : (s : Shape) (n : ℕ) {g o z y x : ℕ} → Grouped s → g < s .g → o < s .o → z < s .z .out → y < s .y .out → x < s .x .out → (input kernel : List Float) (taps : ℕ → Factors)
+    → ((i kz ky kx : ℕ) → i < s .i → kz < s .z .kernel → ky < s .y .kernel → kx < s .x .kernel → taps (tapNumber s i kz ky kx) ≡ tapAt input kernel (insideOnly (tapPlace s n g o z y x i kz ky kx)))
+    → outputOf Halved (placeOf s) (s .taps) input kernel (outputNumber s n g o z y x) ≡ halved taps 0 (s .taps)
+halved-reading s n {g} {o} {z} {y} {x} h hg ho hz hy hx input kernel taps e =
+    output-halved (placeOf s) (s .taps) input kernel (outputNumber s n g o z y x) ∙ halved-same _ taps 0 (s .taps) (λ t _ l. tap t (omega (arith, zero-add (s .taps))))
+  where
+    tap : (t : ℕ) → t < s .taps → insideTapsOf (placeOf s) input kernel (outputNumber s n g o z y x) t ≡ taps t
+    tap t l =
+        let hkz = mod-lt (t / s .x .kernel / s .y .kernel) (h .sound .z .kernel-1) in
+        let hky = mod-lt (t / s .x .kernel) (h .sound .y .kernel-1) in
+        let hkx = mod-lt t (h .sound .x .kernel-1) in
+        let i = t / s .x .kernel / s .y .kernel / s .z .kernel in
+        let u = number-of-parts s t in
+        ap (insideTapsOf (placeOf s) input kernel (outputNumber s n g o z y x)) (sym u)
+        ∙ ap (λ (p : Place). tapAt input kernel (insideOnly p)) (reading s n h hg ho hz hy hx i hkz hky hkx)
+        ∙ sym (e i _ _ _ (channel-below s h l) hkz hky hkx)
+        ∙ ap taps u

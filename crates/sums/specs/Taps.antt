@@ -46,7 +46,8 @@ abbrev pub firstPart : ℕ → ℕ
 firstPart n = n - secondPart n
 
 -- "each half is summed the same way, and the two results are added; a single tap is its product added to +0": the run of `count` taps from number `first` on. A
--- tap without factors is +0. The first number only bounds how often a run is cut: each that is not below `count` gives the same sum (`within-same`), so that `halved-cut` says the sentence.
+-- tap without factors is +0. The first argument only bounds how often a run is cut: each that is not below `count` gives the same sum (`within-same`), so that
+-- `halved-one` and `halved-cut` say the sentence without it.
 unfoldable pub halvedWithin : ℕ → (ℕ → Factors) → ℕ → ℕ → Float
 halvedWithin zero taps first count = plusZero
 halvedWithin (suc cuts) taps first zero = plusZero
@@ -75,10 +76,10 @@ tapsOf place input kernel j t = tapAt input kernel (place j t)
 abbrev pub insideTapsOf : (ℕ → ℕ → Place) → List Float → List Float → ℕ → ℕ → Factors
 insideTapsOf place input kernel j t = tapAt input kernel (insideOnly (place j t))
 
--- Output j, of k taps, by the profile that "is named in the call".
+-- Output j, of k taps. "The profile is named in the call; the order above remains for the other, running sums, and their bits may differ"
 -- Running: "output (n, group g, o, z, y, x) starts at +0 and adds input·weight for each tap"; transposed: "output (n, g, o, z, y, x) starts at +0 and adds",
 -- "Positions no tap reaches are +0."
--- Halved: "a second summing profile for convolution, over all K taps"
+-- Halved: "Halved sums: a second summing profile for convolution, over all K taps"
 unfoldable pub outputOf : Profile → (ℕ → ℕ → Place) → ℕ → List Float → List Float → ℕ → Float
 outputOf Running place k input kernel j = sumFrom plusZero (tapsOf place input kernel j) k
 outputOf Halved place k input kernel j = halved (insideTapsOf place input kernel j) 0 k

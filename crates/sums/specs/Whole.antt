@@ -55,8 +55,8 @@ small x = isWhole x && leb (natAbs (value x)) 4096
 
 -- Demand 3 for one output, which the call leaves as r. "K is I·KZ·KY·KX, also where fewer taps reach an output": k counts the taps that take no part too.
 -- The output is a whole number; its distance from the exact sum is at most (K - 1)(K + 2)/2; where the magnitudes total at most 16,777,216 it is the
--- exact sum. In a halved sum the distance is "also, besides demand 3's bound, at most K times the smallest h with 2^h >= K" (C-17): at most K·h with each such
--- h, so with the smallest.
+-- exact sum. "Under demand 3's premise the distance of a halved sum is also, besides demand 3's bound, at most K times the smallest h with 2^h >= K; the exact case
+-- holds as before": at most K·h with each such h, so with the smallest.
 pub record WholeSum (profile : Profile) (taps : ℕ → Factors) (k : ℕ) (r : Float) : Type 0 where
   pub whole : T (isWhole r)
   pub near : distance (value r) (exactSum taps k) ≤ (k - 1) * (k + 2) / 2

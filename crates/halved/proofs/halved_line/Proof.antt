@@ -33,8 +33,7 @@ halved-sum-requires : tie.Need-halved-sum-requires Inv-loop μ-loop
 halved-sum-requires c κs =
     let a = c .before .before .before .before .before .before in
     let s = a .args .s in
-    let f = a .args .f in
-    (
+    let f = a .args .f in (
       omega (arith, taps-1 s _ _ (a .pre .0) f (a .pre .1 .0)),
       rw (c .output-at .ensures) (held-fewer _ (s .taps) _ _ _ (omega arith) (held s _ _ (a .pre .0) f (a .pre .1 .0) (c .before .before .loop .p))),
     )
