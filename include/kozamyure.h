@@ -15,7 +15,7 @@
  * The contracts do not tell one NaN from another. A call leaves none in an output that it writes; one that stood there before a refused call stays.
  *
  * The library has no state and calls nothing, neither libc nor a heap: every function may be called from several threads and from a signal handler. It takes
- * less than 3,072 bytes of stack.
+ * less than 3,072 bytes of stack, koza_convolution_halved less than 4,608.
  */
 #ifndef KOZAMYURE_H
 #define KOZAMYURE_H
@@ -138,7 +138,8 @@ koza_answer koza_convolution(const uint8_t *sheet, size_t sheet_len, const float
  * by i, kz, ky, kx rising, those outside the input as +0, are cut in two, the first part having the larger half, each half is summed the same way, and the two
  * results are added; a single tap is its product added to +0. Take it for kernels of many taps over whole numbers: where every element is one, of magnitude up
  * to 4,096, an output is at most K*h from the exact sum, h being the smallest with 2^h >= K, and also at most koza_convolution's (K-1)*(K+2)/2. That is 36
- * against 44 for K 9, 525 against 2,849 for 75, 3,600 against 80,199 for 400, 49,152 against 8,390,655 for 4,096. It takes longer. */
+ * against 44 for K 9, 525 against 2,849 for 75, 3,600 against 80,199 for 400, 49,152 against 8,390,655 for 4,096. Where the magnitudes of an output's products
+ * total at most 16,777,216 both are exact. It takes 50 to 130 times as long. */
 koza_answer koza_convolution_halved(const uint8_t *sheet, size_t sheet_len, const float *input, size_t input_len, const float *kernel, size_t kernel_len,
                                     float *output, size_t output_len);
 

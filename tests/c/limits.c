@@ -851,7 +851,7 @@ static void try_counts(const layer *l) {
 }
 
 /* ---- what accepted calls leave: document 01's bench cases with one axis, the index of the first of two equal elements, a window past the input's end; with
- * three axes the order of taps, in sums that round otherwise in another order, and in windows; sums by halves beside running ones */
+ * three axes the order of taps, in sums that round otherwise in another order, and in windows; halved sums beside running ones */
 
 /* Input and kernel have their sizes by Z, Y, X; the stride is that of each axis. Max pooling is tried at both versions, ceil_torch at 14. */
 static const struct {

@@ -1,6 +1,6 @@
 /* Measures how much stack each function of the archive takes, its return address included. Each call runs on a stack of its own that is painted
  * before; afterwards the lowest byte that was touched is looked for. An empty function with the same parameters tells where the call begins.
- * It prints the most for each function and ends with status 1 if one takes 3,072 bytes or more. A function with an array of 4,096 bytes is measured
+ * It prints the most for each function and ends with status 1 if one takes its limit or more. A function with an array of 4,096 bytes is measured
  * too, which shows that the measuring sees what it should. */
 #define _GNU_SOURCE
 #include "kozamyure.h"

@@ -117,7 +117,8 @@ pub fn convolution(sheet: &[u8], input: &[f32], kernel: &[f32], output: &mut [f3
 /// rising, those outside the input as +0, are cut in two, the first part having the larger half, each half is summed the same way, and the two results are
 /// added; a single tap is its product added to +0. Take it for kernels of many taps over whole numbers: where every element is one, of magnitude up to
 /// 4,096, an output is at most K·h from the exact sum, h being the smallest with 2^h >= K, and also at most the (K - 1)·(K + 2)/2 of [`convolution`]. That
-/// is 36 against 44 for K 9, 525 against 2,849 for 75, 3,600 against 80,199 for 400, 49,152 against 8,390,655 for 4,096. It takes longer.
+/// is 36 against 44 for K 9, 525 against 2,849 for 75, 3,600 against 80,199 for 400, 49,152 against 8,390,655 for 4,096. Where the magnitudes of an
+/// output's products total at most 16,777,216 both are exact. It takes 50 to 130 times as long.
 pub fn convolution_halved(sheet: &[u8], input: &[f32], kernel: &[f32], output: &mut [f32]) -> Result<(), Error> {
     written(answers::convolution_halved(sheet, input, kernel, output))
 }

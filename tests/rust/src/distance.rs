@@ -28,7 +28,7 @@ const ELEMENTS: [(Elements, &str); 4] = [
     (Elements::AnySign, "of either sign"),
     (Elements::Positive, "positive"),
     (Elements::Against(Profile::Running), "chosen against running sums"),
-    (Elements::Against(Profile::Halved), "chosen against sums by halves"),
+    (Elements::Against(Profile::Halved), "chosen against halved sums"),
 ];
 
 /// One output for each channel: the kernel is as large as the input.
@@ -118,7 +118,7 @@ fn largest(r: &mut Random, kernel: [u64; 2], elements: Elements) -> [u64; 2] {
 pub fn print() -> bool {
     let mut r = Random::new(7);
     let mut within = true;
-    println!("| taps | whole numbers up to {MOST} | running: largest distance | its bound | by halves: largest distance | its bound |");
+    println!("| taps | whole numbers up to {MOST} | running: largest distance | its bound | halved: largest distance | its bound |");
     println!("|---|---|---|---|---|---|");
     for kernel @ [i, side] in KERNELS {
         let taps = i * side * side;

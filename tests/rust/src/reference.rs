@@ -23,7 +23,7 @@ pub enum Rounding {
     CeilTorch,
 }
 
-/// In which order a convolution adds its products: tap by tap, or by halves.
+/// In which order a convolution adds its products: tap by tap, or in halves.
 #[derive(Clone, Copy, Debug, PartialEq, Eq)]
 pub enum Profile {
     Running,
@@ -493,7 +493,7 @@ fn halved(product: &impl Fn(usize) -> Option<f32>, first: usize, count: usize) -
     halved(product, first, larger) + halved(product, first + larger, second)
 }
 
-/// An output from the input and the weights of each channel that it takes, by i, kz, ky, kx rising. A transposed convolution has no sum by halves.
+/// An output from the input and the weights of each channel that it takes, by i, kz, ky, kx rising. A transposed convolution has no halved sum.
 fn sum(op: Op, channels: &[(&[f32], &[f32])], taps: &[Option<usize>]) -> Sum {
     let mut sum = Sum { running: 0.0, halved: f32::NAN, exact: 0, magnitudes: 0 };
     for (input, weights) in channels {
@@ -515,7 +515,7 @@ fn sum(op: Op, channels: &[(&[f32], &[f32])], taps: &[Option<usize>]) -> Sum {
     sum
 }
 
-/// The distance that demand 3 allows for K taps, and by halves also K times the smallest h with 2^h >= K.
+/// The distance that demand 3 allows for K taps, and of halved sums also K times the smallest h with 2^h >= K.
 pub fn allowed_distance(profile: Profile, k: u64) -> u64 {
     let running = (k - 1) * (k + 2) / 2;
     let h = (0..).find(|h| 1u64 << h >= k).expect("there are powers of two above K");

@@ -250,7 +250,7 @@ fn run() -> Vec<Measured> {
 
 /// The best times of some convolutions in both profiles, which take turns.
 fn print_profiles() {
-    println!("\n| call | taps | outputs | running, ms | by halves, ms | by halves / running |\n|---|---|---|---|---|---|");
+    println!("\n| call | taps | outputs | running, ms | halved, ms | halved / running |\n|---|---|---|---|---|---|");
     for Measured { call, name, .. } in BOTH_PROFILES.iter().map(|case| Measured::new(None, case)) {
         let mut output = vec![f32::NAN; call.shape.outputs as usize];
         let (start, mut best) = (Instant::now(), [f64::INFINITY; 2]);

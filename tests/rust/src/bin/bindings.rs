@@ -134,7 +134,7 @@ fn check_accepted(c: &mut Compared) {
     c.same("convolution", convolution(conv.as_bytes(), &[4096.0, 1.0], &[4096.0, 1.0], &mut sum), Ok(()));
     c.same("the sum of a convolution", sum, [16_777_216.0]);
     c.same("convolution_halved", convolution_halved(conv.as_bytes(), &[4096.0, 1.0], &[4096.0, 1.0], &mut sum), Ok(()));
-    c.same("the sum of a convolution by halves", sum, [16_777_216.0]);
+    c.same("the sum of a convolution with halved sums", sum, [16_777_216.0]);
     let mut sums = [7.0; 5];
     c.same("transposed", transposed(trans.as_bytes(), &[1.0, 2.0], &[1.0; 3], &mut sums), Ok(()));
     c.same("the sums of a transposed convolution", sums, [1.0, 1.0, 3.0, 2.0, 2.0]);

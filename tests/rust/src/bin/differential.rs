@@ -48,7 +48,7 @@ struct Counts {
     pads: BTreeMap<&'static str, u64>,
     /// Their rows in which some output has no tap inside the input's columns: the outputs, and whether the stride is above 1.
     rows_outside: BTreeSet<(u64, bool)>,
-    /// Accepted convolutions, by what their sums by halves are beside the running ones.
+    /// Accepted convolutions, by what their halved sums are beside the running ones.
     halved: BTreeMap<&'static str, u64>,
     /// The numbers of their taps.
     taps: BTreeSet<u64>,
@@ -83,7 +83,7 @@ const PADS: [&str; 11] = [
     "products that all are -0 inside and +0 outside",
 ];
 
-/// What sums by halves are beside running ones: each must be seen.
+/// What halved sums are beside running ones: each must be seen.
 const HALVED: [&str; 5] = ["the same bits", "other bits", "other bits of whole numbers", "other bits and some tap outside", "other bits and 4,096 taps"];
 
 /// The lines of a sheet with a version line, and the line after the last: each must be seen refused.
@@ -692,12 +692,12 @@ fn report_pads(counts: &Counts, made: u64) -> bool {
     met(all && rows == all_rows && seen.iter().all(|(_, n)| *n > 0), "convolutions with pads", made)
 }
 
-/// Whether convolutions were met with all that sums by halves can be beside running ones.
+/// Whether convolutions were met with all that halved sums can be beside running ones.
 fn report_halved(counts: &Counts, made: u64) -> bool {
     let seen = times(&counts.halved, HALVED);
-    println!("sums by halves beside running ones: {}", seen.map(|(what, n)| format!("{what} {n}")).join("; "));
+    println!("halved sums beside running ones: {}", seen.map(|(what, n)| format!("{what} {n}")).join("; "));
     println!("convolutions with {} numbers of taps", counts.taps.len());
-    met(seen.iter().all(|(_, n)| *n > 0), "sums by halves", made)
+    met(seen.iter().all(|(_, n)| *n > 0), "halved sums", made)
 }
 
 /// Whether valid with ceil was met with all that it can be beside floor.

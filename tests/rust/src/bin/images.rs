@@ -45,7 +45,7 @@ impl Shared {
 
 const FUNCTIONS: [(Op, Profile, &str); 4] = [
     (Op::Convolution, Profile::Running, "convolution"),
-    (Op::Convolution, Profile::Halved, "convolution by halves"),
+    (Op::Convolution, Profile::Halved, "convolution with halved sums"),
     (Op::Transposed, Profile::Running, "transposed"),
     (Op::MaxPool, Profile::Running, "maxpool"),
 ];
