@@ -1,13 +1,13 @@
--- An output's taps by channel, depth, row and column: what each has for the sum over the taps inside the input.
+-- The taps of a line's outputs by channel, depth, row and column: what each has for the sum over the taps inside the input.
 use mathlib.Core.Path.{_≡_, refl, sym, ap, ap₂, _∙_}
 use mathlib.Core.List.{List}
 use mathlib.Core.Bool.{Bool, true, false}
 use Prim.Native.Nat.{ℕ, _+_, _-_, _*_, _≤_, _<_}
 use native.Mathlib.Omega.{arith}
 use lib.Ieee.{Float}
-use Rattle.taps.specs.declared.Tap.the-variants.{At}
+use Rattle.taps.specs.declared.Tap.the-variants.{Outside, At}
 use Rattle.taps.specs.Taps.{tapInside, positionOf}
-use Rattle.taps.proofs.Exact.{exactly-none, forward-at, both-at}
+use Rattle.taps.proofs.Exact.{exactly-none, forward-at, forward-outside, both-outer, both-inner, both-at}
 use Rattle.shape.specs.declared.Shape.{Shape}
 use Rattle.shape.specs.Facts.{Grouped}
 use Rattle.shape.specs.Volumes.{inputRows, inputVolume}
@@ -17,14 +17,28 @@ use Rattle.rows.specs.Rows.{Summed}
 use Rattle.rows.proofs.Rows.{summed-away}
 use Rattle.rows.proofs.Ranges.{volume-none}
 use Rattle.call.proofs.Planes.{line-flat, taps-are}
-use Rattle.places.specs.Lines.{insideTaps, LineOf}
-use Rattle.places.proofs.Taps.{volume-is, tapNumber, lies, place-at, placed-pair, column-outside}
-use Rattle.convolution.specs.Inside.{lineTaps, rowNumber, RowInside, AlikeInside, WholeRow, PartInside}
-use Rattle.places.specs.declared.Line.{Line}
+use Rattle.places.proofs.Taps.{volume-is, tapNumber, lies, place-at, placed-pair, placed-none}
+use Rattle.places.specs.Taps.{insideTaps}
+use Rattle.convolution.specs.Inside.{LineOf, lineTaps, rowNumber, RowInside, AlikeInside, WholeRow, PartInside}
+use Rattle.convolution.specs.declared.Line.{Line}
 use Rattle.convolution.specs.declared.KernelRow.{KernelRow}
 use Rattle.convolution.specs.declared.Columns.{Columns}
 
 module _ (s : Shape) (h : Grouped s) (input kernel : List Float) (f : Line) (g : LineOf s f) where
+  -- nothing where it lies outside along one axis
+  module _ (i : ℕ) {p a b k : ℕ} (hp : p < s .x .out) (ha : a < s .z .kernel) (hb : b < s .y .kernel) (hk : k < s .x .kernel) where
+    none-at : lies s h (f .number) i hp ha hb hk ≡ Outside → insideTaps s input kernel (f .number * s .x .out + p) (tapNumber s i a b k) ≡ none
+    none-at e = rw (place-at s h (f .number) i hp ha hb hk) (placed-none input kernel _ _ _ e)
+
+    pub depth-outside : tapInside (s .z) (f .depth) a ≡ false → insideTaps s input kernel (f .number * s .x .out + p) (tapNumber s i a b k) ≡ none
+    depth-outside e = none-at (rw (← g .depth-is, forward-outside (s .z) (f .depth) a e, both-outer, both-outer))
+
+    pub row-outside : tapInside (s .y) (f .row) b ≡ false → insideTaps s input kernel (f .number * s .x .out + p) (tapNumber s i a b k) ≡ none
+    row-outside e = none-at (rw (← g .row-is, forward-outside (s .y) (f .row) b e, both-inner, both-outer))
+
+    pub column-outside : tapInside (s .x) p k ≡ false → insideTaps s input kernel (f .number * s .x .out + p) (tapNumber s i a b k) ≡ none
+    column-outside e = none-at (rw (forward-outside (s .x) p k e, both-inner))
+
   -- its two factors where it lies inside along every axis
   pub tap-inside : (r : KernelRow) {p k : ℕ} → RowInside s f r → p < s .x .out → k < s .x .kernel → tapInside (s .x) p k ≡ true
       → insideTaps s input kernel (f .number * s .x .out + p) (tapNumber s (r .channel) (r .depth) (r .row) k)

@@ -17,12 +17,11 @@ use Rattle.sums.specs.Taps.{pair}
 use Rattle.rows.specs.Rows.{Summed}
 use Rattle.rows.proofs.Rows.{summed-part, summed-same}
 use Rattle.call.specs.Fitting.{Fitting}
-use Rattle.places.specs.Lines.{insideTaps, planeTaps, LineOf}
-use Rattle.places.proofs.Taps.{column-outside}
-use Rattle.convolution.specs.Inside.{lineTaps, rowTaps, spanTaps, rowNumber, rowOf, weightsOf, RowInside, RowFits}
-use Rattle.places.specs.declared.Line.{Line}
+use Rattle.places.specs.Taps.{insideTaps, planeTaps}
+use Rattle.convolution.proofs.Inside.{column-outside, tap-inside}
+use Rattle.convolution.specs.Inside.{LineOf, lineTaps, rowTaps, spanTaps, rowNumber, rowOf, weightsOf, RowInside, RowFits}
+use Rattle.convolution.specs.declared.Line.{Line}
 use Rattle.convolution.specs.declared.KernelRow.{KernelRow}
-use Rattle.convolution.proofs.Inside.{tap-inside}
 use Rattle.convolution.proofs.Bounds.{values-bounds, weights-bounds}
 use Rattle.convolution.proofs.Runs.{span-inside, span-outside}
 

@@ -3,18 +3,18 @@
 use mathlib.Core.Path.{_≡_}
 use mathlib.Core.Bool.{true, false, cond}
 use mathlib.Core.List.{List}
-use Prim.Native.Nat.{ℕ, _+_, _-_, _*_, _≤_, _<_}
+use Prim.Native.Nat.{ℕ, _+_, _-_, _*_, _/_, _%_, _≤_, _<_}
 use lib.ListN.{take, drop}
 use lib.Ieee.{Float}
 use Rattle.sizes.specs.declared.Span.{Span}
 use Rattle.sizes.specs.Bounds.{SpanLimits}
 use Rattle.taps.specs.Taps.{tapInside, positionOf, Exactly}
 use Rattle.shape.specs.declared.Shape.{Shape}
-use Rattle.shape.specs.Volumes.{inputRows, kernelVolume}
+use Rattle.shape.specs.Volumes.{inputRows, outRows, kernelVolume}
 use Rattle.tensor.specs.Table.{read}
 use Rattle.sums.specs.Taps.{Factors, none, pair}
-use Rattle.places.specs.declared.Line.{Line}
-use Rattle.places.specs.Lines.{insideTaps, planeTaps}
+use Rattle.places.specs.Taps.{insideTaps, planeTaps}
+use Rattle.convolution.specs.declared.Line.{Line}
 use Rattle.convolution.specs.declared.KernelRow.{KernelRow}
 use Rattle.convolution.specs.declared.Columns.{Columns}
 use Rattle.convolution.specs.declared.Part.{Part}
@@ -33,7 +33,18 @@ depthTaps s input kernel f channel depth p x t = channelTaps s input kernel f ch
 abbrev pub rowTaps : Shape → List Float → List Float → Line → KernelRow → ℕ → ℕ → ℕ → Factors
 rowTaps s input kernel f r p x t = depthTaps s input kernel f (r .channel) (r .depth) p x (r .row * s .x .kernel + t)
 
--- ---- a kernel depth of a channel that lies inside the input, and a kernel row of it
+-- ---- what is known of a line
+
+pub record LineOf (s : Shape) (f : Line) : Type 0 where
+  pub within : f .number * s .x .out < s .outputs
+  pub plane-is : f .plane ≡ f .number / outRows s / s .o * s .i
+  pub weight-is : f .weight ≡ f .number / outRows s % s .channels * s .taps
+  pub depth-is : f .depth ≡ f .number % outRows s / s .y .out
+  pub row-is : f .row ≡ f .number % outRows s % s .y .out
+  pub depths-are : Exactly (s .z .kernel) (tapInside (s .z) (f .depth)) (f .depths .first) (f .depths .count)
+  pub rows-are : Exactly (s .y .kernel) (tapInside (s .y) (f .row)) (f .rows .first) (f .rows .count)
+
+-- a kernel depth of a channel that lies inside the input, and a kernel row of it
 pub record DepthInside (s : Shape) (f : Line) (channel depth : ℕ) : Type 0 where
   pub channel-below : channel < s .i
   pub depth-below : depth < s .z .kernel

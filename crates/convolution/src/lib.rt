@@ -2,23 +2,24 @@
 // sums are crate `halved`'s.
 use call::Verdict;
 use call::check_sum;
-use halved::halved_line;
+use halved::with_halved_sums;
 use layer::Answer;
 use layer::Layer;
 use layer::Op;
-use places::Line;
-use places::line_of;
 use rows::add_beside;
 use rows::add_taps;
 use rows::start;
 use shape::Shape;
 use shape::input_rows;
+use shape::out_rows;
 use sizes::Span;
 use sizes::least;
 use sums::Profile;
+use taps::Taps;
 use taps::outputs_inside;
 use taps::position_of;
 use taps::run_from;
+use taps::taps_inside;
 ghost use mathlib.Core.Path.{_≡_};
 ghost use Prim.Native.Nat.{_+_, _*_, _≤_, _<_};
 ghost use lib.ListN.{length};
@@ -31,8 +32,20 @@ ghost use Rattle.rows.specs.Rows.{Summed};
 ghost use Rattle.call.specs.Call.{answerOf, contentsOf, WholeOutputs, FiniteOutputs};
 ghost use Rattle.call.specs.Fitting.{Fitting};
 ghost use Rattle.places.specs.Places.{placeOf};
-ghost use Rattle.places.specs.Lines.{LineOf, planeTaps};
-ghost use Rattle.convolution.specs.Inside.{lineTaps, channelTaps, depthTaps, rowTaps, spanTaps, rowNumber, rowOf, weightsOf, DepthInside, RowInside, RowFits, BlockInside, ColumnsInside, PartInside, PartOf};
+ghost use Rattle.places.specs.Taps.{planeTaps};
+ghost use Rattle.convolution.specs.Inside.{LineOf, lineTaps, channelTaps, depthTaps, rowTaps, spanTaps, rowNumber, rowOf, weightsOf, DepthInside, RowInside, RowFits, BlockInside, ColumnsInside, PartInside, PartOf};
+
+// A row of outputs, by its number among all rows: the first plane of its group in the input, its first weight, its depth and row in its plane, and its taps along
+// z and y that lie inside the input.
+struct Line {
+    number: usize,
+    plane: usize,
+    weight: usize,
+    depth: u32,
+    row: u32,
+    depths: Taps,
+    rows: Taps,
+}
 
 // A kernel row: its channel among those of its group, its depth and its row there.
 struct KernelRow {
@@ -54,6 +67,30 @@ struct Columns {
 struct Part {
     columns: Columns,
     end: usize,
+}
+
+// Row number `number` of all rows of outputs.
+fn line_of(s: Shape, number: usize) -> Line
+    requires { ⌜ Grouped s ⌝ }
+    requires { ⌜ number * s .x .out < s .outputs ⌝ }
+    ensures { λ r. ⌜ (r .number ≡ number) × LineOf s r ⌝ }
+{
+    let rows = out_rows(s);
+    let plane = number / rows;
+    let place = number % rows;
+    let depth = (place / s.y.out as usize) as u32;
+    let row = (place % s.y.out as usize) as u32;
+    let depths = taps_inside(s.z, depth);
+    let rows_inside = taps_inside(s.y, row);
+    Line {
+        number,
+        plane: plane / s.o * s.i,
+        weight: plane % s.channels * s.taps,
+        depth,
+        row,
+        depths,
+        rows: rows_inside,
+    }
 }
 
 // ---- a kernel row inside the input
@@ -325,54 +362,52 @@ fn add_line(s: Shape, input: &[f32], kernel: &[f32], f: Line, out: &mut [f32])
     add_outputs(s, input, kernel, f, out);
 }
 
-// The outputs of one row, by running sums.
-fn running_line(s: Shape, input: &[f32], kernel: &[f32], f: Line, out: &mut [f32])
+// The outputs of one row, of number `line` among all rows.
+fn fill_line(s: Shape, input: &[f32], kernel: &[f32], line: usize, out: &mut [f32])
     requires { ⌜ Fitting s (now input) (now kernel) ⌝ }
-    requires { ⌜ LineOf s f × (length (now out) ≡ s .x .out) ⌝ }
-    ensures { λ _. ⌜ now (out .exit) ≡ tabulate (λ x. outputOf Running (placeOf s) (s .taps) (now (input .entry)) (now (kernel .entry)) (f .number * s .x .out + x)) (s .x .out) ⌝ }
+    requires { ⌜ (line * s .x .out + s .x .out ≤ s .outputs) × (length (now out) ≡ s .x .out) ⌝ }
+    ensures { λ _. ⌜ now (out .exit) ≡ tabulate (λ x. outputOf Running (placeOf s) (s .taps) (now (input .entry)) (now (kernel .entry)) (line * s .x .out + x)) (s .x .out) ⌝ }
 {
     start(out, kernel[0]);
+    let f = line_of(s, line);
     add_line(s, input, kernel, f, out);
 }
 
-// The outputs of one row, of number `line` among all rows, by either profile.
-fn fill_line(
-    profile: Profile,
-    s: Shape,
-    input: &[f32],
-    kernel: &[f32],
-    line: usize,
-    out: &mut [f32],
-)
-    requires { ⌜ Fitting s (now input) (now kernel) ⌝ }
-    requires { ⌜ (line * s .x .out + s .x .out ≤ s .outputs) × (length (now out) ≡ s .x .out) ⌝ }
-    ensures { λ _. ⌜ now (out .exit) ≡ tabulate (λ x. outputOf profile (placeOf s) (s .taps) (now (input .entry)) (now (kernel .entry)) (line * s .x .out + x)) (s .x .out) ⌝ }
-{
-    let f = line_of(s, line);
-    match profile {
-        Profile::Running => running_line(s, input, kernel, f, out),
-        Profile::Halved => halved_line(s, input, kernel, f, out),
-    }
-}
-
 // Every output, row by row.
-fn fill(profile: Profile, s: Shape, input: &[f32], kernel: &[f32], output: &mut [f32])
+fn fill(s: Shape, input: &[f32], kernel: &[f32], output: &mut [f32])
     requires { ⌜ Fitting s (now input) (now kernel) ⌝ }
     requires { ⌜ length (now output) ≡ s .outputs ⌝ }
-    ensures { λ _. ⌜ now (output .exit) ≡ tabulate (outputOf profile (placeOf s) (s .taps) (now (input .entry)) (now (kernel .entry))) (s .outputs) ⌝ }
+    ensures { λ _. ⌜ now (output .exit) ≡ tabulate (outputOf Running (placeOf s) (s .taps) (now (input .entry)) (now (kernel .entry))) (s .outputs) ⌝ }
 {
     let width = s.x.out as usize;
     let mut line = 0;
     let mut start = 0;
     while start < output.len() {
         let end = start + width;
-        fill_line(profile, s, input, kernel, line, &mut output[start..end]);
+        fill_line(s, input, kernel, line, &mut output[start..end]);
         line += 1;
         start = end;
     }
 }
 
-// Convolution: checks 1 to 9, which do not depend on the profile, and only then every output. No call is asked to be valid: each is answered.
+// Convolution with running sums.
+fn with_running_sums(layer: Layer, input: &[f32], kernel: &[f32], output: &mut [f32]) -> Answer
+    ensures answer { λ r. ⌜ r ≡ answerOf Op.Convolution layer (now (input .entry)) (now (kernel .entry)) (length (now (output .entry))) ⌝ }
+    ensures contents { λ _. ⌜ now (output .exit) ≡ contentsOf Op.Convolution Running placeOf layer (now (input .entry)) (now (kernel .entry)) (now (output .entry)) ⌝ }
+    ensures whole { λ r. ⌜ (r .number ≡ 0 → WholeOutputs Op.Convolution Running placeOf layer (now (input .entry)) (now (kernel .entry)) (now (output .exit))) ⌝ }
+    ensures finite { λ r. ⌜ (r .number ≡ 0 → FiniteOutputs (now (output .exit))) ⌝ }
+{
+    let verdict = check_sum(Op::Convolution, layer, input, kernel, output.len());
+    match verdict {
+        Verdict::Refuse(answer) => answer,
+        Verdict::Run(s) => {
+            fill(s, input, kernel, output);
+            Answer::numbered(0)
+        }
+    }
+}
+
+// Convolution by either profile: checks 1 to 9, and only then every output. No call is asked to be valid: each is answered.
 pub fn convolution(
     profile: Profile,
     layer: Layer,
@@ -385,12 +420,8 @@ pub fn convolution(
     ensures whole { λ r. ⌜ (r .number ≡ 0 → WholeOutputs Op.Convolution profile placeOf layer (now (input .entry)) (now (kernel .entry)) (now (output .exit))) ⌝ }
     ensures finite { λ r. ⌜ (r .number ≡ 0 → FiniteOutputs (now (output .exit))) ⌝ }
 {
-    let verdict = check_sum(Op::Convolution, layer, input, kernel, output.len());
-    match verdict {
-        Verdict::Refuse(answer) => answer,
-        Verdict::Run(s) => {
-            fill(profile, s, input, kernel, output);
-            Answer::numbered(0)
-        }
+    match profile {
+        Profile::Running => with_running_sums(layer, input, kernel, output),
+        Profile::Halved => with_halved_sums(layer, input, kernel, output),
     }
 }

@@ -2,8 +2,8 @@
 -- tensors (`tap-bounds`).
 use mathlib.Core.Path.{_≡_, refl, sym, ap, ap₂, _∙_}
 use mathlib.Core.List.{List}
-use Prim.Native.Nat.{ℕ, _+_, _*_, _%_, _≤_, _<_}
-use native.Mathlib.Nat.{mul-assoc, mul-pos, le-of-eq, le-mul-of-pos-right, mod-lt}
+use Prim.Native.Nat.{ℕ, _+_, _*_, _/_, _%_, _≤_, _<_}
+use native.Mathlib.Nat.{mul-assoc, mul-pos, le-of-eq, le-mul-of-pos-right, mod-lt, div-add-mod'}
 use native.Mathlib.Omega.{arith}
 use lib.ListN.{length}
 use lib.Ieee.{Float}
@@ -13,6 +13,8 @@ use Rattle.taps.specs.declared.Tap.the-variants.{Outside, At}
 use Rattle.taps.specs.Joins.{forward, both}
 use Rattle.taps.proofs.Exact.{both-outer, both-inner, both-at}
 use Rattle.shape.specs.declared.Shape.{Shape}
+use Rattle.shape.specs.Facts.{Grouped}
+use Rattle.shape.specs.Volumes.{outRows}
 use Rattle.shape.proofs.Volumes.{input-rows-are}
 use Rattle.tensor.specs.Table.{read, plusZero}
 use Rattle.sums.specs.declared.Profile.the-variants.{Halved}
@@ -22,13 +24,12 @@ use Rattle.sums.proofs.Halved.{halved-same}
 use Rattle.sums.proofs.Outputs.{output-halved}
 use Rattle.call.specs.Fitting.{Fitting}
 use Rattle.call.proofs.Planes.{line-flat}
-use Rattle.places.specs.declared.Line.{Line}
-use Rattle.places.specs.Places.{placed, placeOf}
-use Rattle.places.specs.Lines.{insideTaps, LineOf}
+use Rattle.places.proofs.Lines.{LineBounds, line-bounds}
 use Rattle.places.proofs.Taps.{row-number-is, number-of-parts, taps-by-axes, channel-below, tapNumber, place-at, placed-none, placed-pair}
-use Rattle.places.proofs.Bounds.{line-bounds}
-use Rattle.halved.specs.declared.Output.{Output}
+use Rattle.places.specs.Places.{placed, placeOf}
+use Rattle.places.specs.Taps.{insideTaps}
 use Rattle.halved.specs.Outputs.{outputAt, rowOfTap, depthOfTap, channelOfTap, liesOn, outputTaps, Held}
+use Rattle.halved.specs.declared.Output.{Output}
 
 -- ---- what a tap adds to +0
 module _ (input kernel : List Float) (o : Output) (t : ℕ) where
@@ -108,54 +109,56 @@ held-fewer o taps fewer inputs weights l h =
       weights-max = h .weights-max;
     }
 
--- ---- an output of a line
+-- ---- output number j
 placed-same : {a b v w : ℕ} {y z : Tap} → a ≡ b → v ≡ w → y ≡ z → placed a v y ≡ placed b w z
 placed-same e g k = rw (e, g, k)
 
-module _ (s : Shape) (input kernel : List Float) (h : Fitting s input kernel) (f : Line) (g : LineOf s f) where
+module _ (s : Shape) (h : Grouped s) {j : ℕ} (l : j < s .outputs) where
+  -- its row
+  pub row-bounds : LineBounds s (j / s .x .out) (outRows s)
+  row-bounds = line-bounds s (j / s .x .out) h (omega (arith, div-add-mod' j (s .x .out))) refl
+
+module _ (s : Shape) (input kernel : List Float) (h : Fitting s input kernel) where
   pub taps-1 : 1 ≤ s .taps
   taps-1 =
       let a = h .shape .sound in
       rw (taps-by-axes s (h .shape)) (mul-pos (mul-pos (mul-pos (h .shape .i-1) (a .z .kernel-1)) (a .y .kernel-1)) (a .x .kernel-1))
 
   -- its taps lie in the tensors
-  pub held : (p : ℕ) → Held (outputAt s f p) (s .taps) (length input) (length kernel)
-  held p =
+  pub held : {j : ℕ} → j < s .outputs → Held (outputAt s j) (s .taps) (length input) (length kernel)
+  held l =
       let a = h .shape .sound in
-      let b = line-bounds s (f .number) (h .shape) (g .within) refl in
+      let b = row-bounds s (h .shape) l in
       record {
         planes = s .n * s .c;
         z-kernel = a .z .kernel-1;
         y-kernel = a .y .kernel-1;
         x-kernel = a .x .kernel-1;
-        plane = λ t l. omega (arith, b .plane, g .plane-is, channel-below s (h .shape) l);
+        plane = λ t k. omega (arith, b .plane, channel-below s (h .shape) k);
         inputs-in =
             le-of-eq (ap (λ (n : ℕ). n * s .x .input) (mul-assoc (s .n * s .c) (s .z .input) (s .y .input) ∙ ap (λ (n : ℕ). s .n * s .c * n) (sym (input-rows-are s)))
             ∙ sym (h .input-length ∙ a .inputs-is));
-        weights-in = omega (arith, b .weight, g .weight-is, h .kernel-length);
+        weights-in = omega (arith, b .weight, h .kernel-length);
         inputs-max = omega (arith, h .input-length, a .inputs-max);
         weights-max = omega (arith, h .kernel-length, h .shape .weights-max);
       }
 
   -- a tap's number by its channel, depth, row and column
-  number-is : (t : ℕ) → let o = outputAt s f 0 in tapNumber s (channelOfTap o t) (depthOfTap o t % s .z .kernel) (rowOfTap o t % s .y .kernel) (t % s .x .kernel) ≡ t
-  number-is t = sym (row-number-is s _ _ _ _) ∙ number-of-parts s t
+  number-is : (j t : ℕ) → let o = outputAt s j in tapNumber s (channelOfTap o t) (depthOfTap o t % s .z .kernel) (rowOfTap o t % s .y .kernel) (t % s .x .kernel) ≡ t
+  number-is j t = sym (row-number-is s _ _ _ _) ∙ number-of-parts s t
 
   -- its taps are those of its number
-  taps-are-inside : {p : ℕ} → p < s .x .out → (t : ℕ) → outputTaps input kernel (outputAt s f p) t ≡ insideTaps s input kernel (f .number * s .x .out + p) t
-  taps-are-inside {p} l t =
+  taps-are-inside : (j t : ℕ) → outputTaps input kernel (outputAt s j) t ≡ insideTaps s input kernel j t
+  taps-are-inside j t =
       let a = h .shape .sound in
-      let o = outputAt s f p in
-      sym (ap (λ (u : ℕ). insideTaps s input kernel (f .number * s .x .out + p) u) (sym (number-is t))
+      let o = outputAt s j in
+      sym (ap₂ (insideTaps s input kernel) (sym (div-add-mod' j (s .x .out))) (sym (number-is j t))
       ∙ ap (λ (w : Place). tapAt input kernel (insideOnly w))
-      (place-at s (h .shape) (f .number) (channelOfTap o t) l (mod-lt (depthOfTap o t) (a .z .kernel-1)) (mod-lt (rowOfTap o t) (a .y .kernel-1)) (mod-lt t (a .x .kernel-1))
+      (place-at s (h .shape) (j / s .x .out) (channelOfTap o t) (mod-lt j (a .x .out-1)) (mod-lt (depthOfTap o t) (a .z .kernel-1)) (mod-lt (rowOfTap o t) (a .y .kernel-1)) (mod-lt t (a .x .kernel-1))
       ∙ placed-same
-      (ap₂ (λ (m n : ℕ). (m + channelOfTap o t) * n) (sym (g .plane-is)) (ap (λ (n : ℕ). n * s .x .input) (input-rows-are s)))
-      (ap₂ (λ (m n : ℕ). m + n) (sym (g .weight-is)) (number-is t))
-      (ap₂
-      (λ (d r : ℕ). both (s .x .input) (both (s .y .input) (forward (s .z) d (depthOfTap o t % s .z .kernel)) (forward (s .y) r (rowOfTap o t % s .y .kernel))) (forward (s .x) p (t % s .x .kernel)))
-      (sym (g .depth-is)) (sym (g .row-is)))))
+      (ap (λ (n : ℕ). (o .plane + channelOfTap o t) * n) (ap (λ (n : ℕ). n * s .x .input) (input-rows-are s)))
+      (ap (λ (n : ℕ). o .weight + n) (number-is j t))
+      refl))
 
-  pub halved-output : {p : ℕ} → p < s .x .out → halved (outputTaps input kernel (outputAt s f p)) 0 (s .taps) ≡ outputOf Halved (placeOf s) (s .taps) input kernel (f .number * s .x .out + p)
-  halved-output {p} l =
-      halved-same _ _ 0 (s .taps) (λ t _ _. taps-are-inside l t) ∙ sym (output-halved (placeOf s) (s .taps) input kernel (f .number * s .x .out + p))
+  pub halved-output : (j : ℕ) → halved (outputTaps input kernel (outputAt s j)) 0 (s .taps) ≡ outputOf Halved (placeOf s) (s .taps) input kernel j
+  halved-output j = halved-same _ _ 0 (s .taps) (λ t _ _. taps-are-inside j t) ∙ sym (output-halved (placeOf s) (s .taps) input kernel j)

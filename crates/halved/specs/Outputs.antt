@@ -5,15 +5,25 @@ use lib.Ieee.{Float}
 use Rattle.taps.specs.declared.Tap.{Tap}
 use Rattle.taps.specs.Joins.{forward, both}
 use Rattle.shape.specs.declared.Shape.{Shape}
+use Rattle.shape.specs.Volumes.{outRows}
 use Rattle.sums.specs.Taps.{Factors, tapAt, insideOnly}
-use Rattle.places.specs.declared.Line.{Line}
 use Rattle.places.specs.Places.{placed}
 use Rattle.halved.specs.declared.Output.{Output}
 
--- the output at column p of a line
-abbrev pub outputAt : Shape → Line → ℕ → Output
-outputAt s f p =
-    record { z = s .z; y = s .y; x = s .x; depth = f .depth; row = f .row; column = p; plane = f .plane; weight = f .weight }
+-- output number j
+abbrev pub outputAt : Shape → ℕ → Output
+outputAt s j =
+    let line = j / s .x .out in
+    record {
+      z = s .z;
+      y = s .y;
+      x = s .x;
+      depth = line % outRows s / s .y .out;
+      row = line % outRows s % s .y .out;
+      column = j % s .x .out;
+      plane = line / outRows s / s .o * s .i;
+      weight = line / outRows s % s .channels * s .taps;
+    }
 
 -- tap ((i·KZ + kz)·KY + ky)·KX + kx: the number of its row among all rows of the kernel, that of its depth among all depths, and its channel i
 abbrev pub rowOfTap : Output → ℕ → ℕ

@@ -1,20 +1,25 @@
-// Halved sums of convolution (C-17): each output by itself, a run of its taps by the two parts of the run.
-use places::Line;
+// Convolution with halved sums (C-17): each output by itself, a run of its taps by the two parts of the run.
+use call::Verdict;
+use call::check_sum;
+use layer::Answer;
+use layer::Layer;
+use layer::Op;
 use shape::Shape;
+use shape::out_rows;
 use sizes::Span;
 use sums::add_product;
 use taps::Tap;
 use taps::forward;
 ghost use mathlib.Core.Path.{_≡_};
-ghost use Prim.Native.Nat.{_+_, _*_, _≤_};
+ghost use Prim.Native.Nat.{_+_, _≤_, _<_};
 ghost use lib.ListN.{length};
-ghost use Rattle.shape.specs.declared.Shape.{Shape};
+ghost use Rattle.shape.specs.Facts.{Grouped};
 ghost use Rattle.tensor.specs.Table.{plusZero, tabulate};
 ghost use Rattle.sums.specs.declared.Profile.the-variants.{Halved};
 ghost use Rattle.sums.specs.Taps.{addTap, halved, outputOf};
+ghost use Rattle.call.specs.Call.{answerOf, contentsOf, WholeOutputs, FiniteOutputs};
 ghost use Rattle.call.specs.Fitting.{Fitting};
 ghost use Rattle.places.specs.Places.{placeOf};
-ghost use Rattle.places.specs.Lines.{LineOf};
 ghost use Rattle.halved.specs.Outputs.{outputTaps, outputAt, Held};
 
 // An output: the axes, its position along each, the first plane of its group in the input and its first weight.
@@ -29,22 +34,27 @@ struct Output {
     weight: usize,
 }
 
-// The output at column p of a row.
-fn output_at(s: Shape, f: Line, p: u32) -> Output
-    ensures { λ r. ⌜ r ≡ outputAt s f p ⌝ }
+// Output number j of all outputs.
+fn output_at(s: Shape, j: usize) -> Output
+    requires { ⌜ Grouped s × (j < s .outputs) ⌝ }
+    ensures { λ r. ⌜ r ≡ outputAt s j ⌝ }
 {
     let z = s.z;
     let y = s.y;
     let x = s.x;
+    let rows = out_rows(s);
+    let line = j / x.out as usize;
+    let plane = line / rows;
+    let place = line % rows;
     Output {
         z,
         y,
         x,
-        depth: f.depth,
-        row: f.row,
-        column: p,
-        plane: f.plane,
-        weight: f.weight,
+        depth: (place / y.out as usize) as u32,
+        row: (place % y.out as usize) as u32,
+        column: (j % x.out as usize) as u32,
+        plane: plane / s.o * s.i,
+        weight: plane % s.channels * s.taps,
     }
 }
 
@@ -91,16 +101,33 @@ fn halved_sum(input: &[f32], kernel: &[f32], o: Output, first: usize, count: usi
     a + b
 }
 
-// The outputs of one row.
-pub fn halved_line(s: Shape, input: &[f32], kernel: &[f32], f: Line, out: &mut [f32])
+// Every output, one after another.
+fn fill(s: Shape, input: &[f32], kernel: &[f32], output: &mut [f32])
     requires { ⌜ Fitting s (now input) (now kernel) ⌝ }
-    requires { ⌜ LineOf s f × (length (now out) ≡ s .x .out) ⌝ }
-    ensures { λ _. ⌜ now (out .exit) ≡ tabulate (λ x. outputOf Halved (placeOf s) (s .taps) (now (input .entry)) (now (kernel .entry)) (f .number * s .x .out + x)) (s .x .out) ⌝ }
+    requires { ⌜ length (now output) ≡ s .outputs ⌝ }
+    ensures { λ _. ⌜ now (output .exit) ≡ tabulate (outputOf Halved (placeOf s) (s .taps) (now (input .entry)) (now (kernel .entry))) (s .outputs) ⌝ }
 {
-    let mut p = 0;
-    while p < out.len() {
-        let o = output_at(s, f, p as u32);
-        out[p] = halved_sum(input, kernel, o, 0, s.taps);
-        p += 1;
+    let mut j = 0;
+    while j < output.len() {
+        let o = output_at(s, j);
+        output[j] = halved_sum(input, kernel, o, 0, s.taps);
+        j += 1;
+    }
+}
+
+// Convolution with halved sums: checks 1 to 9, and only then every output.
+pub fn with_halved_sums(layer: Layer, input: &[f32], kernel: &[f32], output: &mut [f32]) -> Answer
+    ensures answer { λ r. ⌜ r ≡ answerOf Op.Convolution layer (now (input .entry)) (now (kernel .entry)) (length (now (output .entry))) ⌝ }
+    ensures contents { λ _. ⌜ now (output .exit) ≡ contentsOf Op.Convolution Halved placeOf layer (now (input .entry)) (now (kernel .entry)) (now (output .entry)) ⌝ }
+    ensures whole { λ r. ⌜ (r .number ≡ 0 → WholeOutputs Op.Convolution Halved placeOf layer (now (input .entry)) (now (kernel .entry)) (now (output .exit))) ⌝ }
+    ensures finite { λ r. ⌜ (r .number ≡ 0 → FiniteOutputs (now (output .exit))) ⌝ }
+{
+    let verdict = check_sum(Op::Convolution, layer, input, kernel, output.len());
+    match verdict {
+        Verdict::Refuse(answer) => answer,
+        Verdict::Run(s) => {
+            fill(s, input, kernel, output);
+            Answer::numbered(0)
+        }
     }
 }

@@ -13,10 +13,10 @@ use Rattle.shape.specs.declared.Shape.{Shape}
 use Rattle.shape.specs.Counts.{shapeOf}
 use Rattle.shape.specs.Facts.{Grouped}
 use Rattle.shape.proofs.Accepted.{grouped}
-use Rattle.tensor.specs.Table.{plusZero, tabulate}
+use Rattle.tensor.specs.Table.{tabulate}
 use Rattle.tensor.proofs.Table.{tabulate-same}
 use Rattle.sums.specs.declared.Profile.{Profile}
-use Rattle.sums.specs.Taps.{Place, missing, outside, at, InRange, tapAt, insideOnly, tapsOf, insideTapsOf, outputOf}
+use Rattle.sums.specs.Taps.{Place, missing, outside, at, InRange, tapAt, insideOnly, outputOf}
 use Rattle.sums.proofs.Outputs.{output-same}
 use Rattle.call.specs.declared.Verdict.the-variants.{Run}
 use Rattle.call.specs.Checks.{sumVerdict}

@@ -1,7 +1,6 @@
 -- An output's taps by channel, depth, row and column: what each has for the sum over the taps inside the input.
 use mathlib.Core.Path.{_≡_, sym, ap, ap₂, _∙_}
 use mathlib.Core.List.{List}
-use mathlib.Core.Bool.{false}
 use Prim.Native.Nat.{ℕ, _+_, _-_, _*_, _/_, _%_, _≤_, _<_}
 use native.Mathlib.Nat.{mul-assoc, mod-lt, div-add-mod'}
 use native.Mathlib.Omega.{arith}
@@ -9,9 +8,7 @@ use lib.Ieee.{Float}
 use Rattle.layer.proofs.Places.{place-div, place-mod, place-within, part-within, div-within}
 use Rattle.taps.specs.declared.Tap.{Tap}
 use Rattle.taps.specs.declared.Tap.the-variants.{Outside, At}
-use Rattle.taps.specs.Taps.{tapInside}
 use Rattle.taps.specs.Joins.{forward, both}
-use Rattle.taps.proofs.Exact.{forward-outside, both-outer, both-inner}
 use Rattle.shape.specs.declared.Shape.{Shape}
 use Rattle.shape.specs.Facts.{Grouped}
 use Rattle.shape.specs.Volumes.{outRows, inputPlane, inputVolume, kernelVolume, onRows}
@@ -19,9 +16,8 @@ use Rattle.shape.proofs.Volumes.{plane-at, rows-at, kernel-rows-are}
 use Rattle.tensor.specs.Table.{read}
 use Rattle.sums.specs.Taps.{none, pair, tapAt, insideOnly}
 use Rattle.call.proofs.Planes.{line-flat, plane-parts}
-use Rattle.places.specs.Lines.{insideTaps, planeTaps, LineOf}
 use Rattle.places.specs.Places.{weightPlace, placed, placeOf}
-use Rattle.places.specs.declared.Line.{Line}
+use Rattle.places.specs.Taps.{planeTaps}
 
 -- the taps of a channel by depths
 pub volume-is : (s : Shape) → s .z .kernel * planeTaps s ≡ kernelVolume s
@@ -92,18 +88,3 @@ placed-none input kernel start weight t e = rw e
 pub placed-pair : (input kernel : List Float) (start weight q : ℕ) (t : Tap) → t ≡ At q → tapAt input kernel (insideOnly (placed start weight t)) ≡ pair (read input (start + q)) (read kernel weight)
 unfolding placed insideOnly tapAt
 placed-pair input kernel start weight q t e = rw e
-
-module _ (s : Shape) (h : Grouped s) (input kernel : List Float) (f : Line) (g : LineOf s f) where
-  -- nothing where it lies outside along one axis
-  module _ (i : ℕ) {p a b k : ℕ} (hp : p < s .x .out) (ha : a < s .z .kernel) (hb : b < s .y .kernel) (hk : k < s .x .kernel) where
-    none-at : lies s h (f .number) i hp ha hb hk ≡ Outside → insideTaps s input kernel (f .number * s .x .out + p) (tapNumber s i a b k) ≡ none
-    none-at e = rw (place-at s h (f .number) i hp ha hb hk) (placed-none input kernel _ _ _ e)
-
-    pub depth-outside : tapInside (s .z) (f .depth) a ≡ false → insideTaps s input kernel (f .number * s .x .out + p) (tapNumber s i a b k) ≡ none
-    depth-outside e = none-at (rw (← g .depth-is, forward-outside (s .z) (f .depth) a e, both-outer, both-outer))
-
-    pub row-outside : tapInside (s .y) (f .row) b ≡ false → insideTaps s input kernel (f .number * s .x .out + p) (tapNumber s i a b k) ≡ none
-    row-outside e = none-at (rw (← g .row-is, forward-outside (s .y) (f .row) b e, both-inner, both-outer))
-
-    pub column-outside : tapInside (s .x) p k ≡ false → insideTaps s input kernel (f .number * s .x .out + p) (tapNumber s i a b k) ≡ none
-    column-outside e = none-at (rw (forward-outside (s .x) p k e, both-inner))

@@ -1,3 +1,3 @@
--- Convolution: the places of its taps; and, for the code, its lines.
+-- Convolution: the places of its taps; those inside the input.
 pub mod Places
-pub mod Lines
+pub mod Taps

@@ -2,7 +2,7 @@
 use mathlib.Core.List.{List}
 use Prim.Native.Nat.{ℕ, zero, suc, _+_, _-_, _/_, _<_}
 use lib.Ieee.{Float, binary32, add, mul}
-use Rattle.tensor.specs.Table.{read, plusZero, tabulate}
+use Rattle.tensor.specs.Table.{read, plusZero}
 use Rattle.sums.specs.declared.Profile.{Profile}
 use Rattle.sums.specs.declared.Profile.the-variants.{Running, Halved}
 

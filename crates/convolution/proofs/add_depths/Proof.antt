@@ -10,8 +10,9 @@ use Rattle.taps.proofs.Exact.{exactly-in}
 use Rattle.rows.specs.Rows.{Summed}
 use Rattle.rows.proofs.Rows.{summed-start}
 use Rattle.rows.proofs.Ranges.{blocks-none, range-more, range-all}
-use Rattle.places.specs.Lines.{planeTaps}
-use Rattle.places.proofs.Taps.{volume-is, depth-outside}
+use Rattle.places.proofs.Taps.{volume-is, channel-below}
+use Rattle.places.specs.Taps.{planeTaps}
+use Rattle.convolution.proofs.Inside.{depth-outside}
 use Rattle.convolution.specs.Inside.{channelTaps, depthTaps}
 use Rattle.convolution.proofs.Runs.{columns-within}
 use Rattle.convolution.proofs.add_depths.Statement.{statement}

@@ -2,7 +2,7 @@
 use mathlib.Core.Path.{_≡_}
 use native.Mathlib.Omega.{arith}
 use Rattle.taps.proofs.Exact.{exactly-none}
-use Rattle.places.proofs.Taps.{depth-outside, row-outside}
+use Rattle.convolution.proofs.Inside.{depth-outside, row-outside}
 use Rattle.convolution.proofs.Inside.{line-away}
 use Rattle.convolution.proofs.add_line.Statement.{statement}
 use Rattle.convolution.proofs.add_line.Tie as tie

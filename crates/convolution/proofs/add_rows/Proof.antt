@@ -10,7 +10,7 @@ use Rattle.taps.proofs.Exact.{exactly-in}
 use Rattle.rows.specs.Rows.{Summed}
 use Rattle.rows.proofs.Rows.{summed-start}
 use Rattle.rows.proofs.Ranges.{range-more, range-all}
-use Rattle.places.proofs.Taps.{row-outside}
+use Rattle.convolution.proofs.Inside.{row-outside}
 use Rattle.convolution.specs.Inside.{depthTaps}
 use Rattle.convolution.proofs.Runs.{columns-within}
 use Rattle.convolution.proofs.add_rows.Statement.{statement}

@@ -6,6 +6,7 @@ use native.Mathlib.Omega.{arith}
 use lib.ListN.{length}
 use Rattle.tensor.specs.Table.{tabulate}
 use Rattle.tensor.proofs.Table.{filled-all}
+use Rattle.sums.specs.declared.Profile.the-variants.{Running}
 use Rattle.sums.specs.Taps.{outputOf}
 use Rattle.tensor.proofs.Lines.{LineRoom, line-length, Lines, lines-none, lines-more}
 use Rattle.call.proofs.Lines.{output-room}
@@ -14,10 +15,10 @@ use Rattle.convolution.proofs.fill.Statement.{statement}
 use Rattle.convolution.proofs.fill.Tie as tie
 
 abbrev Inv-loop : tie.InvT-loop
-Inv-loop profile s input kernel output₀ width line₀ start₀ output line start = Lines (s .x .out) (outputOf profile (placeOf s) (s .taps) input kernel) (length output₀) output line start
+Inv-loop s input kernel output₀ width line₀ start₀ output line start = Lines (s .x .out) (outputOf Running (placeOf s) (s .taps) input kernel) (length output₀) output line start
 
 abbrev μ-loop : tie.MeasureT-loop
-μ-loop profile s input kernel output₀ width line₀ start₀ output line start = length output - start
+μ-loop s input kernel output₀ width line₀ start₀ output line start = length output - start
 
 loop-holds : tie.Need-loop-holds Inv-loop μ-loop
 loop-holds c = lines-none _ _ _

@@ -1,7 +1,13 @@
--- By the profile: the row's outputs are those of either function, whose contracts differ in the profile alone.
+-- The sums start at +0 and take all their taps inside the input; they are then the outputs (`line-is`).
 use borrow.Author.Needs.{needs}
+use mathlib.Core.Path.{_≡_, ap, _∙_}
 use Prim.Native.Nat.{_*_, _<_}
 use native.Mathlib.Omega.{arith}
+use lib.ListN.{length}
+use Rattle.tensor.specs.Table.{tabulate}
+use Rattle.tensor.proofs.Table.{tabulate-length}
+use Rattle.call.proofs.Lines.{kernel-pos}
+use Rattle.convolution.proofs.Outputs.{line-is}
 use Rattle.convolution.proofs.fill_line.Statement.{statement}
 use Rattle.convolution.proofs.fill_line.Tie as tie
 
@@ -9,22 +15,29 @@ use Rattle.convolution.proofs.fill_line.Tie as tie
 first-output : (c : tie.Start) → c .args .line * c .args .s .x .out < c .args .s .outputs
 first-output c = omega (arith, c .pre .1 .0, c .pre .0 .shape .sound .x .out-1)
 
+-- the row is as long as it was
+long : (c : tie.After-start) → let a = c .before .before .before .before .before .before in length (c .start .last .0) ≡ a .args .s .x .out
+long c = ap length (c .start .ensures) ∙ tabulate-length _ _ ∙ c .before .before .before .before .before .before .pre .1 .1
+
+line-of-requires : tie.Need-line-of-requires
+line-of-requires c κs = let a = c .before .before .before .before .before .before .before .before in (a .pre .0 .shape, first-output a)
+
+add-line-requires : tie.Need-add-line-requires
+add-line-requires c κs =
+    let t = c .before .before .before .before in
+    let a = t .before .before .before .before .before .before in
+    (a .pre .0, (c .before .line-of .ensures .1, long t))
+
 returns : tie.Need-returns
 returns c =
-    let m = c .before .before .before .before in
-    rw (m .enum-told .given .1, ← m .before .before .line-of .ensures .0) (c .before .before .running-line .ensures)
-
-returns-2 : tie.Need-returns-2
-returns-2 c =
-    let m = c .before .before .before .before in
-    rw (m .enum-told2 .given .1, ← m .before .before .line-of .ensures .0) (c .before .before .halved-line .ensures)
+    let t = c .before .before .before .before .before .before .before in
+    let a = t .before .before .before .before .before .before in
+    line-is (a .args .s) _ _ (a .pre .0) (a .args .line) (c .before .before .before .before .line-of .ensures .0) (a .pre .1 .0) (t .start .ensures ∙ ap (tabulate _) (a .pre .1 .1))
+    (rw (long t) at (c .before .before .add-line .ensures))
 
 pub fill-line-spec : {M : Type 1} → statement M
 fill-line-spec =
     tie.close
     (tie.spec
-    (λ c κs. let a = c .before .before .before in (a .pre .0 .shape, first-output a)) (λ c. search needs)
-    (λ c κs. let m = c .before .before .before in (m .before .before .before .before .pre .0, (m .line-of .ensures .1, m .before .before .before .before .pre .1 .1)))
-    (λ c. search needs)
-    (λ c κs. let m = c .before .before .before in (m .before .before .before .before .pre .0, (m .line-of .ensures .1, m .before .before .before .before .pre .1 .1)))
-    (λ c. search needs) returns (λ c. search needs) returns-2)
+    (λ c. let a = c .before .before .before .before .before in kernel-pos (a .args .s) _ _ (a .pre .0))
+    (λ c κs. search needs) line-of-requires add-line-requires (λ c. search needs) returns)

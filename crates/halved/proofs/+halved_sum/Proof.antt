@@ -1,5 +1,5 @@
 -- The cycle of calls {halved_sum}, whose measure is the count: `halved-one` for a single tap, `halved-cut` for the two parts of a run.
-use mathlib.Core.Path.{_≡_, sym, ap, _∙_}
+use mathlib.Core.Path.{_≡_, sym, _∙_}
 use Prim.Native.Nat.{ℕ, _<_}
 use native.Mathlib.Omega.{arith}
 use denote.Ref.{now}

@@ -1,14 +1,13 @@
 -- By where the tap lies along each axis: outside along one of them it is +0, else its product added to +0. Its place lies in the input by `tap-bounds`.
 use borrow.Author.Needs.{needs}
 use mathlib.Core.Path.{_≡_, sym, ap₂, _∙_}
-use Prim.Native.Nat.{_%_, _<_}
+use Prim.Native.Nat.{_%_}
 use native.Mathlib.Omega.{arith}
 use denote.Ref.{now}
 use lib.ListN.{length}
 use Rattle.taps.specs.declared.Tap.the-variants.{At}
 use Rattle.taps.specs.Joins.{forward}
 use Rattle.taps.proofs.Joins.{forward-below, below-at}
-use Rattle.tensor.specs.Table.{plusZero}
 use Rattle.sums.specs.Taps.{addTap}
 use Rattle.sums.proofs.Sums.{zero-is}
 use Rattle.halved.specs.Outputs.{rowOfTap, depthOfTap}

@@ -4,9 +4,9 @@ use mathlib.Core.Path.{refl}
 use Prim.Native.Nat.{_%_}
 use native.Mathlib.Nat.{div-le-self, mod-lt}
 use native.Mathlib.Omega.{arith}
-use Rattle.places.proofs.Bounds.{LineBounds, line-bounds}
-use Rattle.places.proofs.line_of.Statement.{statement}
-use Rattle.places.proofs.line_of.Tie as tie
+use Rattle.places.proofs.Lines.{LineBounds, line-bounds}
+use Rattle.convolution.proofs.line_of.Statement.{statement}
+use Rattle.convolution.proofs.line_of.Tie as tie
 
 bounds : (c : tie.After-out-rows) → let a = c .before .args in LineBounds (a .s) (a .number) (c .out-rows .result)
 bounds c = line-bounds (c .before .args .s) (c .before .args .number) (c .before .pre .0) (c .before .pre .1) (c .out-rows .ensures)
