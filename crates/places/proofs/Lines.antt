@@ -1,5 +1,5 @@
--- Every number that the code computes fits, and every part that it takes lies in its tensor: what its functions ask, once. `lines` is the number of rows that the
--- code is told.
+-- A line is a row of an output plane, numbered through all planes: its planes of the input, its weights and its row lie in their counts. `lines` is the number of rows
+-- that the code is told.
 use mathlib.Core.Path.{_≡_}
 use Prim.Native.Nat.{ℕ, _+_, _*_, _/_, _%_, _≤_, _<_}
 use native.Mathlib.Nat.{mod-lt}
