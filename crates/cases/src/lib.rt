@@ -1,4 +1,6 @@
 // The lines of test cases, as the programs `vectors` and `records` read them: the value of a line, and where a later line starts.
+#![tactic(auto)]
+
 ghost use Rattle.std.specs.Prelude.{◌≡◌};
 ghost use Rattle.cases.specs.Lines.{value_of, after_line, after_version, after_sheet};
 

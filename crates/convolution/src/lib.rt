@@ -1,5 +1,7 @@
 // Convolution over lent f32 tensors, by either profile. A running sum runs over the taps that lie inside the input: along each axis over a range of them. Halved
 // sums are crate `halved`'s.
+#![tactic(auto)]
+
 ghost use Rattle.std.specs.Prelude.{◌≡◌, ◌+◌, ◌*◌, ◌≤◌, ◌<◌, length};
 ghost use Rattle.shape.specs.Facts.{Grouped};
 ghost use Rattle.shape.specs.Volumes.{kernel_volume};
@@ -24,7 +26,7 @@ use taps::{Taps, outputs_inside, position_of, run_from, taps_inside};
 
 // A row of outputs, by its number among all rows: the first plane of its group in the input, its first weight, its depth and row in its plane, and its taps along
 // z and y that lie inside the input.
-#[derive(Drop)]
+#[derive(Clone, Copy)]
 struct Line {
     number: usize,
     plane: usize,
@@ -36,7 +38,7 @@ struct Line {
 }
 
 // A kernel row: its channel among those of its group, its depth and its row there.
-#[derive(Drop)]
+#[derive(Clone, Copy)]
 struct KernelRow {
     channel: usize,
     depth: u32,
@@ -45,7 +47,7 @@ struct KernelRow {
 
 // Outputs of a row that follow one another, from number `output` on, and taps along x, `count` of them from `first` on. Alike: these are the taps that each of the
 // outputs has inside the input.
-#[derive(Drop)]
+#[derive(Clone, Copy)]
 struct Columns {
     output: u32,
     alike: bool,
@@ -54,7 +56,7 @@ struct Columns {
 }
 
 // Outputs of a row, up to `end`, that are taken at a time.
-#[derive(Drop)]
+#[derive(Clone, Copy)]
 struct Part {
     columns: Columns,
     end: usize,

@@ -1,5 +1,7 @@
 // Arithmetic for any numbers: element counts, which are products held at one past the largest count; division; and what the index of a pooled element is
 // counted modulo.
+#![tactic(auto)]
+
 ghost use Rattle.std.specs.Prelude.{◌*◌, ◌/◌, ◌%◌, ◌≡◌};
 ghost use Rattle.counts.specs.Counts.{capped};
 ghost use Rattle.counts.specs.Index.{dimensions_before, product_from, modulus};

@@ -1,4 +1,6 @@
 // The first line that cannot show a layer: the writer's refusals. The number of a line is counted from `first`, that of the line `op=`.
+#![tactic(auto)]
+
 ghost use Rattle.std.specs.Prelude.{◌≡◌};
 ghost use Rattle.faults.specs.Faults.{bad_version, op_line, bad_axes, bad_axis, hides, hides_sizes, is_default_padding, unused_padding, unused_rounding, unused_axis, axis_faults, pad_faults, line_faults, first_fault, fault_of};
 
@@ -8,7 +10,7 @@ use layer::{
 };
 
 // What a sheet cannot show of a layer: nothing, or the number and the line of the first bad line.
-#[derive(Drop)]
+#[derive(Clone, Copy)]
 pub enum Fault {
     Fine,
     At(u32, u32),

@@ -1,4 +1,6 @@
 // Which number of a sheet's lists is which field of the layer record: the layer of the lists, and the lists of a layer.
+#![tactic(auto)]
+
 ghost use Rattle.std.specs.Prelude.{◌≡◌};
 ghost use Rattle.fields.specs.Layers.{kernel_numbers, kernel_of, per_axis, with_sizes, with_pads, sized_layer, padded_layer, axis_list, input_list, kernel_list};
 
@@ -6,7 +8,7 @@ use layer::{AutoPad, Axis, Layer, Op, Rounding, uses_y, uses_z};
 use text::{Items, more_item, one_item};
 
 // The kernel's sizes: first, second and third are the numbers that stand last in its list, one for each axis.
-#[derive(Drop)]
+#[derive(Clone, Copy)]
 struct Kernel {
     pub g: u32,
     pub o: u32,
@@ -17,7 +19,7 @@ struct Kernel {
 }
 
 // One number for each axis.
-#[derive(Drop)]
+#[derive(Clone, Copy)]
 pub struct PerAxis {
     pub z: u32,
     pub y: u32,

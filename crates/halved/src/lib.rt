@@ -1,4 +1,6 @@
 // Convolution with halved sums (C-17): each output by itself, a run of its taps by the two parts of the run.
+#![tactic(auto)]
+
 ghost use Rattle.std.specs.Prelude.{◌≡◌, ◌+◌, ◌≤◌, ◌<◌, length};
 ghost use Rattle.shape.specs.Facts.{Grouped};
 ghost use Rattle.tensor.specs.Table.{plus_zero, tabulate};
@@ -17,7 +19,7 @@ use sums::add_product;
 use taps::{Tap, forward};
 
 // An output: the axes, its position along each, the first plane of its group in the input and its first weight.
-#[derive(Drop)]
+#[derive(Clone, Copy)]
 struct Output {
     z: Span,
     y: Span,

@@ -1,4 +1,6 @@
 // Judges a layer sheet: reads standard input and prints the report of its first 512 bytes. Which bytes are judged and what is printed is the work of `report`.
+#![tactic(auto)]
+
 use libc::{STDIN_FILENO, STDOUT_FILENO};
 
 fn main() {

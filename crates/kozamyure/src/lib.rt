@@ -1,4 +1,6 @@
 // The C boundary, declared in include/kozamyure.h: every function takes the text of a sheet and lent tensors, and asks nothing of its caller.
+#![tactic(auto)]
+
 ghost use Rattle.std.specs.Prelude.{◌≡◌, length, take};
 ghost use Rattle.layer.specs.declared.Op.TheVariants.{Convolution, Transposed};
 ghost use Rattle.shape.specs.Judge.{judged};
@@ -24,7 +26,7 @@ use transposed::transposed;
 
 // An operator's answer: the line for numbers 20 to 23; for 9 the tensor, the place of its first bad element and the number of its bad elements.
 #[repr(C)]
-#[derive(Drop)]
+#[derive(Clone, Copy)]
 pub struct CallAnswer {
     pub number: u32,
     pub line: u32,
@@ -35,7 +37,7 @@ pub struct CallAnswer {
 
 // The sizes of an output, 1 along an axis that is not used; zeros but for number and line where the sheet or the layer is refused.
 #[repr(C)]
-#[derive(Drop)]
+#[derive(Clone, Copy)]
 pub struct ShapeAnswer {
     pub number: u32,
     pub line: u32,
@@ -49,7 +51,7 @@ pub struct ShapeAnswer {
 
 // The element counts of an operator's tensors; zeros but for number and line where the sheet or the layer is refused.
 #[repr(C)]
-#[derive(Drop)]
+#[derive(Clone, Copy)]
 pub struct LengthsAnswer {
     pub number: u32,
     pub line: u32,
@@ -60,7 +62,7 @@ pub struct LengthsAnswer {
 
 // The part of a tensor that is a plane; zeros where it is refused.
 #[repr(C)]
-#[derive(Drop)]
+#[derive(Clone, Copy)]
 pub struct PlanePart {
     pub start: usize,
     pub length: usize,
@@ -68,7 +70,7 @@ pub struct PlanePart {
 
 // The peak of a plane; zeros but for number, place and bad where the plane is refused.
 #[repr(C)]
-#[derive(Drop)]
+#[derive(Clone, Copy)]
 pub struct PeakFound {
     pub number: u32,
     pub place: usize,
@@ -80,7 +82,7 @@ pub struct PeakFound {
 
 // A sheet written back: its length, or the number and the line of a refusal.
 #[repr(C)]
-#[derive(Drop)]
+#[derive(Clone, Copy)]
 pub struct SheetWritten {
     pub number: u32,
     pub line: u32,

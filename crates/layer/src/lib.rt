@@ -1,4 +1,6 @@
 // The layer record: what a layer sheet says of one layer, with its limits and defaults, and the answer record of a call.
+#![tactic(auto)]
+
 ghost use Rattle.std.specs.Prelude.{◌≡◌};
 ghost use Rattle.layer.specs.Kinds.{is_pool, is_transposed, is_convolution, same_op, is_explicit, is_same, is_floor, is_ceil, is_ceil_torch, same_rounding};
 ghost use Rattle.layer.specs.Axes.{axes_in, uses_y, uses_z};
@@ -7,14 +9,14 @@ ghost use Rattle.layer.specs.Limits.{within, images_ok, channels_ok, size_ok, ke
 ghost use Rattle.layer.specs.Defaults.{default_axis, default_layer, is_default_rounding, is_default_axis_attribute};
 ghost use Rattle.layer.specs.Answers.{numbered, bad_element};
 
-#[derive(Drop)]
+#[derive(Clone, Copy)]
 pub enum Op {
     Convolution,
     Transposed,
     MaxPool,
 }
 
-#[derive(Drop)]
+#[derive(Clone, Copy)]
 pub enum AutoPad {
     Explicit,
     SameUpper,
@@ -22,7 +24,7 @@ pub enum AutoPad {
     Valid,
 }
 
-#[derive(Drop)]
+#[derive(Clone, Copy)]
 pub enum Rounding {
     Floor,
     Ceil,
@@ -30,7 +32,7 @@ pub enum Rounding {
 }
 
 // What a layer says of one spatial axis.
-#[derive(Drop)]
+#[derive(Clone, Copy)]
 pub struct Axis {
     pub input: u32,
     pub kernel: u32,
@@ -43,7 +45,7 @@ pub struct Axis {
 
 // A layer. The version is that of its operator: 8, or 14 for MaxPool-14. The input is [n, c, z, y, x], the kernel [g, o, i, kz, ky, kx] or, transposed,
 // [g, i, o, kz, ky, kx]. With two axes z is not used, with one neither z nor y.
-#[derive(Drop)]
+#[derive(Clone, Copy)]
 pub struct Layer {
     pub version: u32,
     pub op: Op,
@@ -63,7 +65,7 @@ pub struct Layer {
 
 // What an operator comes back with: a number, and for number 9 the tensor, the place of its first bad element and the number of its bad elements. What a number
 // does not use is 0.
-#[derive(Drop)]
+#[derive(Clone, Copy)]
 pub struct Answer {
     pub number: u32,
     pub tensor: u32,

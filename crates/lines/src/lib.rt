@@ -1,4 +1,6 @@
 // One line of a sheet, read from lent bytes or put into a lent buffer, and the answers of a reader of such lines.
+#![tactic(auto)]
+
 ghost use Rattle.std.specs.Prelude.{◌≡◌};
 ghost use Rattle.text.specs.Lines.{show_line};
 ghost use Rattle.print.specs.Put.{Put};
@@ -11,14 +13,14 @@ use text::{Items, Line, Numbers, part_of, read_line};
 use values::{Field, is_default_value, put_value, unread_number, value_of};
 
 // What reading a sheet gives: the layer, or the number and the line of a refusal.
-#[derive(Drop)]
+#[derive(Clone, Copy)]
 pub enum Read {
     Sheet(Layer),
     Refused(u32, u32),
 }
 
 // What a line gives: its value and the place of the next line, or the number of a refusal.
-#[derive(Drop)]
+#[derive(Clone, Copy)]
 pub enum LineAnswer {
     LineAt(Items, usize),
     BadLine(u32),

@@ -1,4 +1,6 @@
 // Max pooling with indices over lent f32 tensors.
+#![tactic(auto)]
+
 ghost use Rattle.std.specs.Prelude.{◌+◌, ◌*◌, ◌≤◌, ◌<◌, ◌^◌, ◌≡◌, length};
 ghost use Rattle.taps.specs.Joins.{forward};
 ghost use Rattle.shape.specs.Facts.{Pooled};

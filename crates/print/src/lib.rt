@@ -1,5 +1,7 @@
 // Bytes put into a lent buffer: texts, numbers and lists of numbers. Each function puts its bytes from a place on, as far as the buffer goes, and
 // tells the next place.
+#![tactic(auto)]
+
 ghost use Rattle.std.specs.Prelude.{◌≤◌, [], ◌∷◌, ◌≡◌};
 ghost use Rattle.text.specs.Numbers.{decimal};
 ghost use Rattle.text.specs.Lists.{shown, show_numbers};

@@ -1,5 +1,7 @@
 // The products that a convolution reports (C-19): how many pairs of an output and a tap have the tap inside the input. The pairs of a plane are those along each
 // axis multiplied, and every output plane has as many with each of its channels, so nothing is counted while the sums are formed.
+#![tactic(auto)]
+
 ghost use Rattle.std.specs.Prelude.{◌≡◌};
 ghost use Rattle.layer.specs.declared.Op.TheVariants.{Convolution};
 ghost use Rattle.shape.specs.Facts.{Grouped};
@@ -14,14 +16,14 @@ use sizes::Span;
 use taps::{taps_inside, turned};
 
 // What a convolution's call comes back with: its answer, and how many products it formed; 0 where it is refused.
-#[derive(Drop)]
+#[derive(Clone, Copy)]
 pub struct Convolved {
     pub answer: Answer,
     pub products: usize,
 }
 
 // What the checks say of a convolution's call: the shape that it runs over and how many products it forms, or the answer of a refusal.
-#[derive(Drop)]
+#[derive(Clone, Copy)]
 pub enum Counted {
     Run(Shape, usize),
     Refuse(Answer),

@@ -1,5 +1,7 @@
 // The reader of a sheet's lines over lent bytes: the version line, and the twelve others three at a time. Line numbers are counted from `first`, that of the
 // line `op=`.
+#![tactic(auto)]
+
 ghost use Rattle.std.specs.Prelude.{◌+◌, ◌≡◌};
 ghost use Rattle.text.specs.Texts.{text};
 ghost use Rattle.lines.specs.Lines.{field_line, unless_taken, parsed};
@@ -17,7 +19,7 @@ use values::{Field, auto_pad_of, axis_of, op_of, rounding_of};
 const ALWAYS: bool = true;
 
 // What three lines give: their values and the place of the next line, or the number and the line of a refusal.
-#[derive(Drop)]
+#[derive(Clone, Copy)]
 enum ThreeLines {
     ThreeAt(Items, Items, Items, usize),
     BadAt(u32, u32),

@@ -4,6 +4,8 @@
 // (3) and outputs of one element, and the layer is written as a sheet.
 // A case of a plane has six: its name, the tensor's sizes, its length, the image, the channel and the depth. The tensor's elements are their own places.
 // The outputs and the buffer hold marks before the calls: `kept` says that they still do.
+#![tactic(auto)]
+
 ghost use Rattle.std.specs.Prelude.{◌≤◌};
 
 use cases::{after_line, after_sheet, value_of};

@@ -1,5 +1,7 @@
 // What a sheet comes to: the sizes of its layer's output, or the number that refuses it, as values and as the text that the program prints.
 // That text is at most 80 bytes long: two keys and line ends, and two numbers of at most ten digits or, after the answer 0, five with commas between them.
+#![tactic(auto)]
+
 ghost use Rattle.std.specs.Prelude.{◌≡◌, ◌++◌, ◌*◌, ◌≤◌};
 ghost use Rattle.text.specs.Numbers.{decimal};
 ghost use Rattle.text.specs.Lines.{show_line};
@@ -16,7 +18,7 @@ use text::{one_item, part_of};
 use values::Field;
 
 // The sizes of an output: images, channels, depths, rows and columns.
-#[derive(Drop)]
+#[derive(Clone, Copy)]
 pub struct Output {
     pub n: u32,
     pub c: u32,
@@ -26,7 +28,7 @@ pub struct Output {
 }
 
 // The sizes of an output, or the number of a refusal.
-#[derive(Drop)]
+#[derive(Clone, Copy)]
 pub enum OutputSizes {
     Sizes(Output),
     NoSizes(u32),

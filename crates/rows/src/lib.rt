@@ -1,5 +1,7 @@
 // Running sums that stand side by side in a lent slice: more taps for each of them, each sum keeping its own order. Every public function takes any slices
 // and runs over as many as they hold.
+#![tactic(auto)]
+
 ghost use Rattle.std.specs.Prelude.{◌≡◌, ℕ, ◌+◌, ◌-◌, ◌*◌, ◌≤◌, ◌<◌, min, length};
 ghost use Rattle.sizes.specs.Size.{ceil_div};
 ghost use Rattle.tensor.specs.Table.{read, plus_zero, tabulate};

@@ -1,4 +1,6 @@
 // Checks 1 to 7 of a layer, and what an accepted layer tells an operator.
+#![tactic(auto)]
+
 ghost use Rattle.std.specs.Prelude.{◌*◌, ◌/◌, ◌%◌, ◌≤◌, ◌^◌, ◌≡◌, not, ◌&&◌};
 ghost use Rattle.layer.specs.Kinds.{is_pool};
 ghost use Rattle.sizes.specs.Bounds.{SpanLimits};
@@ -22,7 +24,7 @@ use taps::{Direction, Tap, some_missed, tap_on};
 
 // What an accepted layer comes to: its sizes and output channels, the spans of its axes, the taps of an output, the elements of input, kernel and output, and
 // what the index of a pooled element is counted modulo.
-#[derive(Drop)]
+#[derive(Clone, Copy)]
 pub struct Shape {
     pub n: usize,
     pub c: usize,
@@ -41,7 +43,7 @@ pub struct Shape {
 }
 
 // What checks 1 to 7 say: the shape, or the number.
-#[derive(Drop)]
+#[derive(Clone, Copy)]
 pub enum Judged {
     Accepted(Shape),
     Refused(u32),
@@ -349,7 +351,7 @@ fn both(size: u32, outer: Tap, inner: Tap) -> Tap
 }
 
 // The position on the outer and on the inner of two axes of a number along both.
-#[derive(Drop)]
+#[derive(Clone, Copy)]
 struct Parts {
     outer: u32,
     inner: u32,

@@ -1,4 +1,6 @@
 // The layer sheet: its reader and its writer over lent bytes, and the way back from one to the other.
+#![tactic(auto)]
+
 ghost use Rattle.std.specs.Prelude.{◌≡◌, length, take};
 ghost use Rattle.writer.specs.Writer.{write_sheet, buffer_after};
 ghost use Rattle.sheet.specs.Sheet.{read_sheet};

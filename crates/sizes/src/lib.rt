@@ -1,4 +1,6 @@
 // Sizes along one axis.
+#![tactic(auto)]
+
 ghost use Rattle.std.specs.Prelude.{◌^◌, ◌+◌, ◌-◌, ◌*◌, ◌/◌, ◌≤◌, ◌<◌, min, ◌≡◌, true};
 ghost use Rattle.sizes.specs.Size.{ceil_div, dilated_kernel, padded, less_last, explicit_out, same_out, same_total, pads_of, window_out, transposed_out, out_of, window_fits, axis_fits, rounding_of};
 ghost use Rattle.sizes.specs.Sizing.{axis_dimensions_ok, pads_ok, axis_attributes_ok, mode_ok, span_of, sizing};
@@ -11,7 +13,7 @@ use layer::{
 
 // One axis of an accepted layer: its sizes and steps, the padding at its beginning, and the output size. Steps of 16 bits and all else of 32 keep every sum and
 // product of an axis below 2^64, so that no function here asks anything of its caller.
-#[derive(Drop)]
+#[derive(Clone, Copy)]
 pub struct Span {
     pub input: u32,
     pub kernel: u32,
@@ -22,14 +24,14 @@ pub struct Span {
 }
 
 // What the size rule makes of an axis: its span, or none.
-#[derive(Drop)]
+#[derive(Clone, Copy)]
 pub enum Sizing {
     Sized(Span),
     Unfit,
 }
 
 // The padding on both sides of an axis.
-#[derive(Drop)]
+#[derive(Clone, Copy)]
 pub struct Pads {
     pub begin: usize,
     pub end: usize,

@@ -1,9 +1,11 @@
 // The f32 sums of taps. What is proved of every such sum stands in proofs/: no overflow (Finite), demand 3 (Demand).
+#![tactic(auto)]
+
 ghost use Rattle.std.specs.Prelude.{◌≡◌};
 ghost use Rattle.sums.specs.Taps.{add_tap, pair};
 
 // How the taps of an output are summed: one after another in document 01's order, or a run of them by its two halves. Each may give other bits.
-#[derive(Drop)]
+#[derive(Clone, Copy)]
 pub enum Profile {
     Running,
     Halved,

@@ -1,4 +1,6 @@
 // Where a tap of an axis lies, and which taps lie inside the input.
+#![tactic(auto)]
+
 ghost use Rattle.std.specs.Prelude.{◌≡◌, ◌+◌, ◌-◌, ◌*◌, ◌<◌};
 ghost use Rattle.taps.specs.Taps.{tap_position, tap_inside, position_of, turned, some_missed, Exactly, SameTaps, Alike, AllBefore, steps_to};
 ghost use Rattle.taps.specs.Joins.{position_in, position_by, forward, backward, tap_on};
@@ -7,28 +9,28 @@ use sizes::{Span, ceil_div, least, minus};
 
 // Where a tap lies along an axis, or along several axes taken as one: outside the input, or at a position of it. A tap is document 01's term for one place of
 // the kernel.
-#[derive(Drop)]
+#[derive(Clone, Copy)]
 pub enum Tap {
     Outside,
     At(usize),
 }
 
 // The taps of one output position that lie inside the input: `count` of them, from `first` on.
-#[derive(Drop)]
+#[derive(Clone, Copy)]
 pub struct Taps {
     pub first: usize,
     pub count: usize,
 }
 
 // Output positions that follow one another, up to `end`, and have the same taps inside the input.
-#[derive(Drop)]
+#[derive(Clone, Copy)]
 pub struct Run {
     pub taps: Taps,
     pub end: usize,
 }
 
 // Which way a tap is read: from an output position (convolution, pooling), or as transposed convolution does.
-#[derive(Drop)]
+#[derive(Clone, Copy)]
 pub enum Direction {
     Forward,
     Backward,

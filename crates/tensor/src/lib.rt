@@ -1,4 +1,6 @@
 // Tensors: the element check, the best of a window, the plane picker and the peak finder.
+#![tactic(auto)]
+
 ghost use Rattle.std.specs.Prelude.{◌+◌, ◌*◌, ◌≤◌, ◌≡◌, length};
 ghost use Rattle.tensor.specs.Element.{element_ok, bad_count, element_check};
 ghost use Rattle.tensor.specs.Window.{better_of, best_of, up_to};
@@ -11,7 +13,7 @@ use layer::{channels_ok, images_ok, size_ok};
 // ---- the element check
 
 // What the element check finds: every element is good, or the place of the first bad one and the number of bad ones.
-#[derive(Drop)]
+#[derive(Clone, Copy)]
 pub enum Elements {
     Good,
     Bad(usize, usize),
@@ -56,7 +58,7 @@ pub fn check_elements(xs: &[f32]) -> Elements
 // ---- the best of a window
 
 // What a window holds: nothing, or its best value with its place.
-#[derive(Drop)]
+#[derive(Clone, Copy)]
 pub enum Window {
     Empty,
     Best(f32, usize),
@@ -109,7 +111,7 @@ fn has_plane(
 }
 
 // A part of a slice: where it begins and how long it is, in elements.
-#[derive(Drop)]
+#[derive(Clone, Copy)]
 pub struct Part {
     pub start: usize,
     pub length: usize,
@@ -170,7 +172,7 @@ pub fn pick_plane(
 // ---- the peak finder
 
 // The first largest element of a plane.
-#[derive(Drop)]
+#[derive(Clone, Copy)]
 pub struct Peak {
     pub value: f32,
     pub row: usize,
@@ -178,7 +180,7 @@ pub struct Peak {
 }
 
 // What the peak finder comes back with: for number 9 the place of the first bad element and the number of bad ones.
-#[derive(Drop)]
+#[derive(Clone, Copy)]
 pub struct PeakAnswer {
     pub number: u32,
     pub place: usize,

@@ -1,4 +1,6 @@
 // Bytes as text: words, numbers, lists of numbers and lines with a key, read from lent bytes.
+#![tactic(auto)]
+
 ghost use Rattle.std.specs.Prelude.{◌≤◌, ◌≡◌};
 ghost use Rattle.text.specs.Texts.{place, starts_with, same, part};
 ghost use Rattle.text.specs.Numbers.{number, number_read, in_range, digits};
@@ -6,14 +8,14 @@ ghost use Rattle.text.specs.Lists.{one_item, more_item, spelled, numbers, number
 ghost use Rattle.text.specs.Lines.{line, value_at};
 
 // What a text spells: a number, or none.
-#[derive(Drop)]
+#[derive(Clone, Copy)]
 pub enum Number {
     Value(u32),
     NoNumber,
 }
 
 // Up to six numbers; those that are not used are 0.
-#[derive(Drop)]
+#[derive(Clone, Copy)]
 pub struct Items {
     pub a: u32,
     pub b: u32,
@@ -24,14 +26,14 @@ pub struct Items {
 }
 
 // What a text spells: a list of numbers, or none.
-#[derive(Drop)]
+#[derive(Clone, Copy)]
 pub enum Numbers {
     These(Items),
     NoNumbers,
 }
 
 // A line with its key: where its value starts and ends, and where the next line starts.
-#[derive(Drop)]
+#[derive(Clone, Copy)]
 pub enum Line {
     Value(usize, usize, usize),
     NoLine,

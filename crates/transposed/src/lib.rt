@@ -1,4 +1,6 @@
 // Transposed convolution over lent f32 tensors.
+#![tactic(auto)]
+
 ghost use Rattle.std.specs.Prelude.{◌≡◌, ◌+◌, ◌*◌, ◌≤◌, ◌<◌, length};
 ghost use Rattle.shape.specs.Facts.{Grouped};
 ghost use Rattle.shape.specs.Volumes.{kernel_rows};
@@ -19,7 +21,7 @@ use sizes::{ceil_div, minus};
 use taps::{Direction, Tap};
 
 // The first taps of a row of outputs: their plane of the input and of the kernel, and the row's number in its plane.
-#[derive(Drop)]
+#[derive(Clone, Copy)]
 struct FirstTap {
     plane: usize,
     weight: usize,
@@ -27,7 +29,7 @@ struct FirstTap {
 }
 
 // A kernel row: its channel among those of its group, and its row in that channel's kernel.
-#[derive(Drop)]
+#[derive(Clone, Copy)]
 struct KernelRow {
     channel: usize,
     row: usize,

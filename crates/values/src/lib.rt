@@ -1,4 +1,6 @@
 // The values of a sheet's lines as numbers, read from lent bytes and put into a lent buffer: words, the number of axes, lists and the axis.
+#![tactic(auto)]
+
 ghost use Rattle.std.specs.Prelude.{◌≤◌, ◌≡◌};
 ghost use Rattle.text.specs.Lists.{numbers_read, last_number};
 ghost use Rattle.text.specs.Numbers.{number};
@@ -12,7 +14,7 @@ use print::{put_byte, put_number, put_numbers, put_text};
 use text::{Items, Number, Numbers, find, is_text, one_item, part_of, read_number, read_numbers};
 
 // What a line's value is: a word of a table (of roundings, those that a version knows), the number of axes, a list of so many numbers, or an axis.
-#[derive(Drop)]
+#[derive(Clone, Copy)]
 pub enum Field {
     VersionWord,
     OpWord,

@@ -1,4 +1,6 @@
 // The writer of a layer's sheet into a lent buffer.
+#![tactic(auto)]
+
 ghost use Rattle.std.specs.Prelude.{◌≡◌, length, drop};
 ghost use Rattle.text.specs.Lines.{show_line};
 ghost use Rattle.print.specs.Put.{Put};
@@ -17,7 +19,7 @@ use text::one_item;
 use values::{Field, auto_pad_items, axis_items, op_items, rounding_items};
 
 // What writing a sheet gives: 0 and the sheet's length, or the number and the line of a refusal.
-#[derive(Drop)]
+#[derive(Clone, Copy)]
 pub struct Written {
     pub number: u32,
     pub line: u32,

@@ -18,7 +18,7 @@ rank_small c = let h = c.ranges.axes.fits in omega arith
 axes_is : (c : tie.Start) → to_z w64 c.args.axes ≡ pos c.args.axes
 axes_is c = let h = rank_small c in to_z_pos w64 (omega arith)
 
-add-rank : tie.Need-overflow-add-rank
+add-rank : tie.Need-overflow_add-rank
 add-rank c = rw (axes_is c) (record { sfits = rank_small c })
 
 rank_is : (c : tie.Start) → to_z w64 (of_z w64 (to_z w64 c.args.axes +ℤ pos 2)) ≡ pos (c.args.axes + 2)
@@ -29,11 +29,11 @@ minus_fits : (n : ℕ) → n < 2 ^ 63 → SFits w64 (neg_ℤ (pos n))
 minus_fits zero h = sfits_lit tt
 minus_fits (suc n) h = let k : n < 2 ^ 63 = omega arith in record { sfits = k }
 
-sub-result : tie.Need-overflow-sub-result
+sub-result : tie.Need-overflow_sub-result
 sub-result c = rw (rank_is c, +ℤ_idl) (minus_fits (c.args.axes + 2) (rank_small c))
 
 -- the axis
-cast-at : tie.Need-overflow-cast-at
+cast-at : tie.Need-overflow_cast-at
 cast-at c = rw (to_z-of_z c.ranges.axis) (sfits_widen tt c.ranges.axis)
 
 at_is : (c : tie.Start) → to_z w64 (of_z w64 (to_z w32 (of_z w32 c.args.axis))) ≡ c.args.axis
