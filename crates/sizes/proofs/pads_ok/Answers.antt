@@ -1,0 +1,6 @@
+-- `pads_ok` meets its contract: it is the definition.
+use borrow.Author.Rules.{rules}
+use Rattle.sizes.proofs.pads_ok.Goals as goal
+
+pub returns : goal.returns
+returns c = cc
