@@ -1,6 +1,5 @@
 -- `axis_dimensions_ok` meets its contract: it is the definition.
 use Rattle.sizes.specs.Sizing.{axis_dimensions_ok}
-use borrow.Author.Rules.{rules}
 use Rattle.sizes.proofs.axis_dimensions_ok.Goals as goal
 
 pub returns : goal.returns

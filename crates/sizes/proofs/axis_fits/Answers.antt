@@ -1,5 +1,4 @@
 -- `axis_fits` meets its contract: each arm is a case of the definition.
-use borrow.Author.Rules.{rules}
 use Rattle.sizes.proofs.axis_fits.Goals as goal
 
 pub returns-in-Convolution : goal.returns-in-Convolution

@@ -1,5 +1,4 @@
 -- A divisor of 1 and a dividend of at most the divisor need no division; nothing is divided by 0; else a is (a - 1) and one more.
-use borrow.Author.Rules.{rules}
 use mathlib.Core.Path.{◌≡◌, sym, ap, ◌∙◌}
 use Prim.Native.Nat.{ℕ, ◌+◌, ◌-◌, ◌/◌}
 use native.Mathlib.Nat.{div-one, div-zero, div-eq_of_lt, div-le_self, add-zero, add-div_right}

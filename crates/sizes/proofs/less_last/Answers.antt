@@ -2,7 +2,6 @@
 use Prim.Native.Nat.{ℕ, ◌+◌, ◌-◌, ◌*◌}
 use native.Mathlib.Omega.{arith}
 use borrow.Author.Tests.{le-leb, lt-leb}
-use borrow.Author.Rules.{rules}
 use Rattle.sizes.proofs.Division.{times_le}
 use Rattle.sizes.proofs.less_last.Goals as goal
 use Rattle.sizes.proofs.less_last.Goals.{Start}

@@ -1,5 +1,4 @@
 -- `mode_ok` meets its contract: it is the definition.
-use borrow.Author.Rules.{rules}
 use Rattle.sizes.proofs.mode_ok.Goals as goal
 
 pub returns : goal.returns

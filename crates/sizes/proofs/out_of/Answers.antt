@@ -1,5 +1,4 @@
 -- `out_of` meets its contract: each arm is a case of the definition, and number 5 says what it asks.
-use borrow.Author.Rules.{rules}
 use Rattle.sizes.proofs.out_of.Goals as goal
 
 pub window_out-requires : goal.window_out-requires

@@ -1,6 +1,5 @@
 -- `padded_size` meets its contract: the pads are at most the layer's own and a dilated kernel, so no sum overflows.
 use native.Mathlib.Omega.{arith}
-use borrow.Author.Rules.{rules}
 use Rattle.sizes.proofs.Division.{pads_le}
 use Rattle.sizes.proofs.padded_size.Goals as goal
 

@@ -1,5 +1,4 @@
 -- `pads_of` meets its contract: each arm is a case of the definition.
-use borrow.Author.Rules.{rules}
 use Rattle.sizes.proofs.pads_of.Goals as goal
 
 pub returns-in-Explicit : goal.returns-in-Explicit

@@ -1,5 +1,4 @@
 -- `pads_ok` meets its contract: it is the definition.
-use borrow.Author.Rules.{rules}
 use Rattle.sizes.proofs.pads_ok.Goals as goal
 
 pub returns : goal.returns

@@ -1,5 +1,4 @@
 -- `rounding_of` meets its contract: each arm is a case of the definition.
-use borrow.Author.Rules.{rules}
 use Rattle.sizes.specs.Size.{rounding_of}
 use Rattle.sizes.proofs.rounding_of.Goals as goal
 

@@ -1,5 +1,4 @@
 -- `same_out` meets its contract: it is the definition.
-use borrow.Author.Rules.{rules}
 use Rattle.sizes.specs.Size.{same_out}
 use Rattle.sizes.proofs.same_out.Goals as goal
 

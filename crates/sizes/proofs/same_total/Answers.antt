@@ -1,7 +1,6 @@
 -- `same_total` meets its contract: the last step starts inside the input, so nothing overflows.
 use native.Mathlib.Omega.{arith}
 use Prim.Native.Nat.{◌-◌, ◌*◌, ◌≤◌, ◌<◌}
-use borrow.Author.Rules.{rules}
 use Rattle.sizes.specs.Size.{same_out, same_total}
 use Rattle.sizes.proofs.Division.{ceil_pos, ceil_last, kernel_le}
 use Rattle.sizes.proofs.same_total.Goals as goal

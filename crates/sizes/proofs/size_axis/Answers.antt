@@ -1,8 +1,6 @@
 -- At each return the tests passed so far say which case of the definition holds.
 use mathlib.Core.Path.{◌≡◌, sym, ◌∙◌}
 use mathlib.Core.Bool.{true, false, ◌&&◌}
-use borrow.Author.Rules.{rules}
-use borrow.Author.Tests.{not-true, not-false}
 use Rattle.layer.proofs.Tests.{and_both}
 use Rattle.sizes.specs.Size.{axis_fits}
 use Rattle.sizes.specs.Sizing.{axis_dimensions_ok, axis_attributes_ok, sizing}
@@ -38,11 +36,11 @@ pub span_of-requires : goal.span_of-requires
 span_of-requires c =
     let a = c.args in
     let o = ok c.before.before in
-    ((limits c.before.before, fits c), span_limits a.op a.auto_pad a.rounding a.axis o.0 o.1 (fits c))
+    record { axis_limits = (limits c.before.before, fits c); span_limits = span_limits a.op a.auto_pad a.rounding a.axis o.0 o.1 (fits c) }
 
 pub returns : goal.returns
 unfolding sizing
-returns c = let o = ok c.before.before.before in simp (o.0, o.1, fits c.before, c.Span-of.ensures)
+returns c = let o = ok c.before.before.before in simp (o.0, o.1, fits c.before, c.span_of.ensures)
 
 pub axis_fits-requires : goal.axis_fits-requires
 axis_fits-requires c = limits c

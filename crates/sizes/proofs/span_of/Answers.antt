@@ -1,8 +1,6 @@
 -- The fields are those of the axis, with the pads and the size of the callees; the limits of the span keep each in its type.
-use mathlib.Core.Path.{◌≡◌, ap}
+use mathlib.Core.Path.{ap}
 use native.Mathlib.Omega.{arith}
-use borrow.Author.Rules.{rules}
-use Rattle.sizes.specs.Size.{begin_of}
 use Rattle.sizes.specs.declared.Pads.{Pads}
 use Rattle.sizes.proofs.span_of.Goals as goal
 

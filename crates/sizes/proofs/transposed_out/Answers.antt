@@ -5,7 +5,6 @@ use Rattle.sizes.proofs.Division.{kernel_le}
 use Rattle.sizes.specs.Size.{transposed_out}
 use native.Mathlib.Nat.{mul-le-mul}
 use native.Mathlib.Omega.{arith}
-use borrow.Author.Rules.{rules}
 use Rattle.sizes.proofs.transposed_out.Goals as goal
 
 pub overflow_mul-a : goal.overflow_mul-a

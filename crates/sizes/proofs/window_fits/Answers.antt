@@ -1,5 +1,4 @@
 -- `window_fits` meets its contract: number 5 is one rule for every mode.
-use borrow.Author.Rules.{rules}
 use Rattle.sizes.proofs.SizeRule.{fits_rule}
 use Rattle.sizes.proofs.window_fits.Goals as goal
 

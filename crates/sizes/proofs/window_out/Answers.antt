@@ -2,7 +2,6 @@
 use native.Mathlib.Omega.{arith}
 use mathlib.Core.Path.{sym, ◌∙◌}
 use borrow.Author.Tests.{leb-true}
-use borrow.Author.Rules.{rules}
 use Rattle.sizes.proofs.Division.{pads_le}
 use Rattle.sizes.proofs.SizeRule.{size_rule, fits_rule}
 use Rattle.sizes.proofs.window_out.Goals as goal
