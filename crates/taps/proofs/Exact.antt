@@ -4,10 +4,10 @@ use native.Mathlib.Nat.{add_comm, mul-le-mul_right}
 use native.Mathlib.Omega.{arith}
 use native.Mathlib.Decide.{dec_lt}
 use mathlib.Core.Path.{◌≡◌, refl, sym, ap, ◌∙◌}
-use mathlib.Core.Bool.{Bool, true, false, cond, ◌&&◌, false≢true}
+use mathlib.Core.Bool.{Bool, true, false, ◌&&◌}
 use lib.Dec.{leb, ltb}
 use borrow.Author.Tests.{leb-true, ltb-true, le-leb, lt-leb, lt-ltb, le-ltb}
-use Rattle.layer.proofs.Tests.{and_both, and_of, and_true, and_false}
+use Rattle.layer.proofs.Tests.{and_both, and_of, and_false}
 use Rattle.sizes.specs.declared.Span.{Span}
 use Rattle.sizes.specs.Size.{ceil_div}
 use Rattle.sizes.proofs.Division.{lt_ceil, stride_some}
