@@ -6,10 +6,9 @@ use mathlib.Core.Path.{◌≡◌, refl, sym}
 use mathlib.Core.Bool.{Bool, true, false, ◌||◌}
 use lib.Dec.{ltb, eqb}
 use borrow.Author.Tests.{ltb-true, eqb-true, eqb-false}
-use borrow.Author.Rules.{rules}
 use Rattle.layer.proofs.Tests.{or_other, or_neither}
-use Rattle.shape.proofs.taken_apart.Statement.{statement}
-use Rattle.shape.proofs.taken_apart.Tie as tie
+use Rattle.shape.proofs.taken_apart.Goals as goal
+use Rattle.shape.proofs.taken_apart.Goals.{Else-n-size}
 
 first : (n size : ℕ) → ltb n size || eqb size 0 ≡ true → (0 ≡ n / size) × (n ≡ n % size)
 first n size e = go (ltb n size) refl
@@ -18,13 +17,17 @@ first n size e = go (ltb n size) refl
     go true h = let l = ltb-true n size h in (sym (div-eq_of_lt l), sym (mod-eq_of_lt l))
     go false h = rw (eqb-true size 0 (or_other (ltb n size) (eqb size 0) e h)) (sym (div-zero n), sym (mod-zero n))
 
-positive : (c : tie.Else1) → 0 < c.before.args.size
+positive : (c : Else-n-size) → 0 < c.args.size
 positive c =
-    let a = c.before.args in
-    let h = eqb-false a.size 0 (or_neither (ltb a.n a.size) (eqb a.size 0) c.if1.false).1 in
+    let a = c.args in
+    let h = eqb-false a.size 0 (or_neither (ltb a.n a.size) (eqb a.size 0) c.if-n-size.false).1 in
     omega (arith, h)
 
-pub taken_apart_spec : {M : Type 1} → statement M
-taken_apart_spec =
-    tie.close (tie.spec
-    (λ c. first c.before.args.n c.before.args.size c.if1.true) positive positive (λ c. search rules))
+pub returns-then-n-size : goal.returns-then-n-size
+returns-then-n-size c = first c.args.n c.args.size c.if-n-size.true
+
+pub nonzero_div-result : goal.nonzero_div-result
+nonzero_div-result c = positive c
+
+pub nonzero_rem-result : goal.nonzero_rem-result
+nonzero_rem-result c = positive c
