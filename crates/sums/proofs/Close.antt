@@ -1,4 +1,4 @@
--- Demand 3, the additions: a float that is a whole number close to the exact sum of n taps, and that adding keeps this (`add-close`). An addition moves a sum by at
+-- Demand 3, the additions: a float that is a whole number close to the exact sum of n taps, and that adding keeps this (`add_close`). An addition moves a sum by at
 -- most one for each 2^24 of its magnitude, so by at most the number of its taps; the errors of both parts leave room for that.
 use mathlib.Core.Path.{◌≡◌, refl, ◌∙◌}
 use mathlib.Core.Bool.{Bool, true, ◌&&◌}

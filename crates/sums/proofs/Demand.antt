@@ -1,4 +1,4 @@
--- Demand 3: sums of products of small whole numbers. `whole_sum` for a running sum, by induction over its taps (`tap-close`); `all_whole` for every output of a call,
+-- Demand 3: sums of products of small whole numbers. `whole_sum` for a running sum, by induction over its taps (`tap_close`); `all_whole` for every output of a call,
 -- by either profile.
 use mathlib.Core.Path.{◌≡◌, refl}
 use mathlib.Core.Bool.{false}

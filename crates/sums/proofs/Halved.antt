@@ -1,4 +1,4 @@
--- Laws of halved sums: a single tap, one cut, equal taps, and what holds of every halved sum because each cut keeps it (`by-cuts`). Each is an induction over the
+-- Laws of halved sums: a single tap, one cut, equal taps, and what holds of every halved sum because each cut keeps it (`by_cuts`). Each is an induction over the
 -- bound on the cuts, which a run of n taps never reaches where it is at least n.
 use mathlib.Core.Path.{◌≡◌, refl}
 use Prim.Native.Nat.{ℕ, zero, suc, ◌+◌, ◌≤◌, ◌<◌}

@@ -1,4 +1,4 @@
--- Demand 3 for a halved sum, with C-17's bound: `whole-halved`. By induction over the cuts: the errors of two parts of at most 2^h taps are at most h for each tap,
+-- Demand 3 for a halved sum, with C-17's bound: `whole_halved`. By induction over the cuts: the errors of two parts of at most 2^h taps are at most h for each tap,
 -- and the addition that joins them adds at most one for each tap.
 use mathlib.Core.Path.{◌≡◌, refl, sym, ap, ◌∙◌}
 use Prim.Native.Nat.{ℕ, zero, suc, ◌+◌, ◌*◌, ◌^◌, ◌≤◌}

@@ -1,5 +1,5 @@
 -- Over elements within the limits the sum over all taps is the sum over those inside the input: a sum that starts at +0 is never -0, and so each of the others
--- leaves it as it is (`add-outside`).
+-- leaves it as it is (`add_outside`).
 use mathlib.Core.Path.{◌≡◌, refl, ap, ◌∙◌}
 use mathlib.Core.List.{List}
 use Prim.Native.Nat.{ℕ, zero, suc, ◌<◌}

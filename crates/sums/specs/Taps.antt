@@ -46,8 +46,8 @@ abbrev pub first_part : ℕ → ℕ
 first_part n = n - second_part n
 
 -- "each half is summed the same way, and the two results are added; a single tap is its product added to +0": the run of `count` taps from number `first` on. A
--- tap without factors is +0. The first argument only bounds how often a run is cut: each that is not below `count` gives the same sum (`Within-same`), so that
--- `halved-one` and `halved-cut` say the sentence without it.
+-- tap without factors is +0. The first argument only bounds how often a run is cut: each that is not below `count` gives the same sum (`within_same`), so that
+-- `halved_one` and `halved_cut` say the sentence without it.
 unfoldable pub halved_within : ℕ → (ℕ → Factors) → ℕ → ℕ → Float
 halved_within zero taps first count = plus_zero
 halved_within (suc cuts) taps first zero = plus_zero
