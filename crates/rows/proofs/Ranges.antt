@@ -3,7 +3,7 @@ use mathlib.Core.Path.{◌≡◌, sym, ap, ◌∙◌}
 use mathlib.Core.List.{List}
 use mathlib.Core.Bool.{Bool, false}
 use Prim.Native.Nat.{ℕ, zero, suc, ◌+◌, ◌-◌, ◌*◌, ◌/◌, ◌%◌, ◌≤◌, ◌<◌}
-use native.Mathlib.Nat.{add-mul, zero-mul, mul-one, add-zero, div-add-mod'}
+use native.Mathlib.Nat.{add-mul, zero-mul, mul-one, div-add-mod'}
 use native.Mathlib.Omega.{arith}
 use lib.Ieee.{Float}
 use Rattle.layer.proofs.Places.{div_within, mod_within}

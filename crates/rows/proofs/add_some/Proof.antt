@@ -15,37 +15,37 @@ place c j h l = held_place (length c.args.values.now) (length c.args.weights.now
 first : (c : tie.Start) → c.args.k * c.args.dilation < length c.args.values.now
 first c = let p = place c 0 c.requires.1 (omega (arith, c.requires.0.0)) in omega (arith, p)
 
-add-three-requires : tie.Need-add-three-requires
+add-three-requires : tie.Need-add_three-requires
 add-three-requires c κs =
     let a = c.before.before.before.before.before.before.before in (
-      rw (from_on_length a.args.weights.now a.args.k) c.before.before.before.if1.true,
-      λ x h. rw (from_on_length a.args.values.now (a.args.k * a.args.dilation)) (place a 2 h (omega (arith, c.before.before.before.if1.true, a.requires.0.0))),
+      rw (from_on_length a.args.weights.now a.args.k) c.before.before.before.if-weights-k-ge3.true,
+      λ x h. rw (from_on_length a.args.values.now (a.args.k * a.args.dilation)) (place a 2 h (omega (arith, c.before.before.before.if-weights-k-ge3.true, a.requires.0.0))),
     )
 
-returns : tie.Need-returns
+returns : tie.Need-returns-then-weights-k-ge3
 returns c =
     let a = c.before.before.before.before.before.before.before.before.before.before in (
       omega arith,
       (
-        omega (arith, c.before.before.before.before.before.before.if1.true, a.requires.0.0),
-        summed_from a.args.values.now a.args.weights.now a.args.stride a.args.dilation a.args.k c.before.before.add-three.ensures,
+        omega (arith, c.before.before.before.before.before.before.if-weights-k-ge3.true, a.requires.0.0),
+        summed_from a.args.values.now a.args.weights.now a.args.stride a.args.dilation a.args.k c.before.before.add_three.ensures,
       ),
     )
 
-add-one-requires : tie.Need-add-one-requires
+add-one-requires : tie.Need-add_one-requires
 add-one-requires c κs =
     let a = c.before.before.before.before.before.before.before in (
       rw (from_on_length a.args.weights.now a.args.k) (omega (arith, a.requires.0.0)),
       λ x h. rw (from_on_length a.args.values.now (a.args.k * a.args.dilation)) (let p = place a 0 h (omega (arith, a.requires.0.0)) in omega (arith, p)),
     )
 
-returns-2 : tie.Need-returns-2
+returns-2 : tie.Need-returns
 returns-2 c =
     let a = c.before.before.before.before.before.before.before.before.before.before in (
       omega arith,
       (
         omega (arith, a.requires.0.0),
-        summed_from a.args.values.now a.args.weights.now a.args.stride a.args.dilation a.args.k c.before.before.add-one.ensures,
+        summed_from a.args.values.now a.args.weights.now a.args.stride a.args.dilation a.args.k c.before.before.add_one.ensures,
       ),
     )
 
@@ -58,9 +58,9 @@ add_some_spec =
     (λ c. omega (arith, first c.before.before.before.before.before))
     (λ c. omega (arith, first c.before.before.before.before.before)) (λ c. search rules) (λ c. search rules)
     (λ c. search rules) (λ c. search rules) (λ c. search rules) add-three-requires
-    (λ c. c.before.before.add-three.ensures.kept) returns
+    (λ c. c.before.before.add_three.ensures.kept) returns
     (λ c. omega (arith, first c.before.before.before.before.before))
     (λ c. omega (arith, first c.before.before.before.before.before))
     (λ c. omega (arith, first c.before.before.before.before.before)) (λ c. search rules) (λ c. search rules)
     (λ c. search rules) (λ c. search rules) (λ c. search rules) add-one-requires
-    (λ c. c.before.before.add-one.ensures.kept) returns-2)
+    (λ c. c.before.before.add_one.ensures.kept) returns-2)

@@ -9,41 +9,41 @@ use Rattle.rows.proofs.Rows.{three_taps, summed_none, summed_next}
 use Rattle.rows.proofs.add_three.Statement.{statement}
 use Rattle.rows.proofs.add_three.Tie as tie
 
-abbrev invariant_loop : tie.invariant_loop
+abbrev invariant_loop : tie.invariant-loop-x
 invariant_loop sums₀ values weights stride dilation u v w x₀ sums x = (x ≤ length sums₀) × Summed (across values weights stride dilation) 3 x sums₀ sums
 
-abbrev decreases_loop : tie.decreases_loop
+abbrev decreases_loop : tie.decreases-loop-x
 decreases_loop sums₀ values weights stride dilation u v w x₀ sums x = length sums₀ - x
 
-loop-holds : tie.Need-loop-init invariant_loop decreases_loop
+loop-holds : tie.Need-loop-x-init invariant_loop decreases_loop
 loop-holds c = (omega arith, summed_none _ _ _)
 
 -- the turn's sum is one of the slice's, and its last value one of the values
-turn : (c : tie.In-loop invariant_loop decreases_loop) → let a = c.before.before.before.before.before.before.before.before in
-    (c.before.loop.x < length a.args.sums.now)
-    × ((c.before.loop.x * a.args.stride + 2 * a.args.dilation < length a.args.values.now) × (length c.before.loop.sums ≡ length a.args.sums.now))
+turn : (c : tie.In-loop-x invariant_loop decreases_loop) → let a = c.before.before.before.before.before.before.before.before in
+    (c.before.loop-x.x < length a.args.sums.now)
+    × ((c.before.loop-x.x * a.args.stride + 2 * a.args.dilation < length a.args.values.now) × (length c.before.loop-x.sums ≡ length a.args.sums.now))
 turn c =
-    let l = c.before.loop in
+    let l = c.before.loop-x in
     let a = c.before.before.before.before.before.before.before.before in
-    let h : l.x < length a.args.sums.now = omega (arith, c.loop-test.true, l.invariant.1.kept) in
+    let h : l.x < length a.args.sums.now = omega (arith, c.loop-x-test.true, l.invariant.1.kept) in
     (h, (a.requires.1 _ h, l.invariant.1.kept))
 
-loop-again : tie.Need-loop-preserved invariant_loop decreases_loop
+loop-again : tie.Need-loop-x-preserved invariant_loop decreases_loop
 loop-again c =
     let i = c.before.before.before.before.before in
     let a = i.before.before.before.before.before.before.before.before.args in (
       omega (arith, turn i),
-      summed_next _ _ i.before.loop.invariant.1 (turn i).0
-          (c.add-products.ensures ∙ three_taps a.values.now a.weights.now a.stride a.dilation _ i.before.loop.x),
+      summed_next _ _ i.before.loop-x.invariant.1 (turn i).0
+          (c.add_products.ensures ∙ three_taps a.values.now a.weights.now a.stride a.dilation _ i.before.loop-x.x),
     )
 
-same_length : tie.Need-same-length invariant_loop decreases_loop
-same_length c = c.before.loop.invariant.1.kept
+same_length : tie.Need-shape_of-sums invariant_loop decreases_loop
+same_length c = c.before.loop-x.invariant.1.kept
 
 returns : tie.Need-returns invariant_loop decreases_loop
 returns c =
-    let l = c.before.loop in
-    let e : l.x ≡ length c.before.before.before.before.before.before.before.before.args.sums.now = omega (arith, l.invariant.0, l.invariant.1.kept, c.loop-test.false) in
+    let l = c.before.loop-x in
+    let e : l.x ≡ length c.before.before.before.before.before.before.before.before.args.sums.now = omega (arith, l.invariant.0, l.invariant.1.kept, c.loop-x-test.false) in
     rw e at l.invariant.1
 
 pub add_three_spec : {M : Type 1} → statement M

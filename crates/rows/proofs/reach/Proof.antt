@@ -7,31 +7,31 @@ use native.Mathlib.Omega.{arith}
 use Rattle.rows.proofs.reach.Statement.{statement}
 use Rattle.rows.proofs.reach.Tie as tie
 
-returns : tie.Need-returns
+returns : tie.Need-returns-then-dilation-eq1
 returns c =
-    let e : c.before.before.before.args.dilation ≡ 1 = c.before.if1.true in
-    rw (e, mul-one) (c.least.ensures ∙ ap (λ (n : ℕ). min n c.before.before.before.args.most) c.before.before.minus.ensures)
+    let e : c.before.before.before.args.dilation ≡ 1 = c.before.if-dilation-eq1.true in
+    rw (e, mul-one) (c.least.ensures ∙ ap (λ (n : ℕ). min n c.before.before.before.args.most) c.before.before.minus-after.ensures)
 
-returns-2 : tie.Need-returns-2
+returns-2 : tie.Need-returns-then-dilation-eq0
 returns-2 c =
-    let e : c.before.before.before.args.dilation ≡ 0 = c.if2.true in
+    let e : c.before.before.before.args.dilation ≡ 0 = c.if-dilation-eq0.true in
     rw (e, mul-zero) (omega arith)
 
 -- the taps after the first, and their distance
-after : (c : tie.Else2) → c.before.before.minus.result * c.before.before.before.args.dilation ≡ (c.before.before.before.args.taps - 1) * c.before.before.before.args.dilation
-after c = ap (λ (n : ℕ). n * c.before.before.before.args.dilation) c.before.before.minus.ensures
+after : (c : tie.Else-dilation-eq0) → c.before.before.minus-after.result * c.before.before.before.args.dilation ≡ (c.before.before.before.args.taps - 1) * c.before.before.before.args.dilation
+after c = ap (λ (n : ℕ). n * c.before.before.before.args.dilation) c.before.before.minus-after.ensures
 
-returns-3 : tie.Need-returns-3
+returns-3 : tie.Need-returns-then-most-dilation
 returns-3 c =
     let a = c.before.before.before.before.args in
-    let d : 1 ≤ a.dilation = omega (arith, c.before.if2.false) in
-    let h : a.most < c.before.before.before.minus.result * a.dilation = (div-lt_iff_lt-mul d).0 c.if3.true in
+    let d : 1 ≤ a.dilation = omega (arith, c.before.if-dilation-eq0.false) in
+    let h : a.most < c.before.before.before.minus-after.result * a.dilation = (div-lt_iff_lt-mul d).0 c.if-most-dilation.true in
     omega (arith, after c.before)
 
-fits : (c : tie.Else3) → c.before.before.before.minus.result * c.before.before.before.before.args.dilation ≤ c.before.before.before.before.args.most
-fits c = let d : 1 ≤ c.before.before.before.before.args.dilation = omega (arith, c.before.if2.false) in (le-div_iff_mul-le d).0 c.if3.false
+fits : (c : tie.Else-most-dilation) → c.before.before.before.minus-after.result * c.before.before.before.before.args.dilation ≤ c.before.before.before.before.args.most
+fits c = let d : 1 ≤ c.before.before.before.before.args.dilation = omega (arith, c.before.if-dilation-eq0.false) in (le-div_iff_mul-le d).0 c.if-most-dilation.false
 
-returns-4 : tie.Need-returns-4
+returns-4 : tie.Need-returns
 returns-4 c = omega (arith, fits c, after c.before)
 
 pub reach_spec : {M : Type 1} → statement M

@@ -10,25 +10,25 @@ use Rattle.sums.proofs.Sums.{sum_start, sum_more}
 use Rattle.rows.proofs.tap_sum.Statement.{statement}
 use Rattle.rows.proofs.tap_sum.Tie as tie
 
-abbrev invariant_loop : tie.invariant_loop
+abbrev invariant_loop : tie.invariant-loop-k
 invariant_loop sum values weights from dilation total₀ k₀ total k = (k ≤ length weights) × (total ≡ sum_from sum (λ t. pair (read values (from + t * dilation)) (read weights t)) k)
 
-abbrev decreases_loop : tie.decreases_loop
+abbrev decreases_loop : tie.decreases-loop-k
 decreases_loop sum values weights from dilation total₀ k₀ total k = length weights - k
 
-loop-holds : tie.Need-loop-init invariant_loop decreases_loop
+loop-holds : tie.Need-loop-k-init invariant_loop decreases_loop
 loop-holds c = (omega arith, sym (sum_start _ _))
 
 -- the turn's value is one of the values
-turn : (c : tie.In-loop invariant_loop decreases_loop) → let a = c.before.before.before.before.args in
-    (a.from + c.before.loop.k * a.dilation < length a.values.now) × (c.before.loop.k < length a.weights.now)
-turn c = (c.before.before.before.before.requires _ c.loop-test.true, c.loop-test.true)
+turn : (c : tie.In-loop-k invariant_loop decreases_loop) → let a = c.before.before.before.before.args in
+    (a.from + c.before.loop-k.k * a.dilation < length a.values.now) × (c.before.loop-k.k < length a.weights.now)
+turn c = (c.before.before.before.before.requires _ c.loop-k-test.true, c.loop-k-test.true)
 
-loop-again : tie.Need-loop-preserved invariant_loop decreases_loop
-loop-again c = (omega arith, c.add-product.ensures ∙ sym (rw (sum_more, ← c.before.before.before.before.loop.invariant.1)))
+loop-again : tie.Need-loop-k-preserved invariant_loop decreases_loop
+loop-again c = (omega arith, c.add_product-total.ensures ∙ sym (rw (sum_more, ← c.before.before.before.before.loop-k.invariant.1)))
 
 returns : tie.Need-returns invariant_loop decreases_loop
-returns c = c.before.loop.invariant.1 ∙ ap (sum_from _ _) (omega arith)
+returns c = c.before.loop-k.invariant.1 ∙ ap (sum_from _ _) (omega arith)
 
 pub tap_sum_spec : {M : Type 1} → statement M
 tap_sum_spec =
