@@ -10,7 +10,7 @@ use lib.Ieee.{Float}
 use Rattle.layer.proofs.Places.{place_within}
 use Rattle.taps.specs.declared.Tap.{Tap}
 use Rattle.taps.specs.declared.Tap.TheVariants.{Outside, At}
-use Rattle.taps.specs.Joins.{forward, both}
+use Rattle.taps.specs.Joins.{forward}
 use Rattle.taps.proofs.Exact.{both_outer, both_inner, both_at}
 use Rattle.shape.specs.declared.Shape.{Shape}
 use Rattle.shape.specs.Facts.{Grouped}

@@ -1,7 +1,7 @@
 -- An output's taps by channel, depth, row and column: what each has for the sum over the taps inside the input.
 use mathlib.Core.Path.{◌≡◌, sym, ap, ap₂, ◌∙◌}
 use mathlib.Core.List.{List}
-use Prim.Native.Nat.{ℕ, ◌+◌, ◌-◌, ◌*◌, ◌/◌, ◌%◌, ◌≤◌, ◌<◌}
+use Prim.Native.Nat.{ℕ, ◌+◌, ◌*◌, ◌/◌, ◌%◌, ◌≤◌, ◌<◌}
 use native.Mathlib.Nat.{mul_assoc, mod-lt, div-add-mod'}
 use native.Mathlib.Omega.{arith}
 use lib.Ieee.{Float}
