@@ -13,24 +13,16 @@ taps : (c : tie.Start) → let a = c.args in (a.c.first + a.c.count ≤ length a
 taps c = (omega (arith, c.requires.0.weights_are, c.requires.1.taps), omega (arith, c.requires.0.weights_are, c.requires.0.limits.kernel_64))
 
 -- the row from the first of them on
-from : (c : tie.After-position-of) → (c.position-of.result < length c.before.before.before.before.before.args.row.now) × (length c.before.before.before.before.before.args.row.now ≤ 4096)
+from : (c : tie.After-position_of-from) → (c.position_of-from.result < length c.args.row.now) × (length c.args.row.now ≤ 4096)
 from c =
-    let a = c.before.before.before.before.before in
-    (omega (arith, c.position-of.ensures, a.requires.0.row_is, position_within a.args.x a.args.c.output a.args.c.first (block_first a.args.x a.args.c a.requires.1)), omega (arith, a.requires.0.row_is, a.requires.0.limits.input_4096))
+    (omega (arith, c.position_of-from.ensures, c.requires.0.row_is, position_within c.args.x c.args.c.output c.args.c.first (block_first c.args.x c.args.c c.requires.1)), omega (arith, c.requires.0.row_is, c.requires.0.limits.input_4096))
 
 returns : tie.Need-returns
 returns c =
-    let t = c.before.before in
-    let p = t.before.before.before.before.before.before in
-    let a = p.before.before.before.before.before in
-    block_summed a.args.x a.args.row.now a.args.weights.now a.requires.0 a.args.c a.args.out.now a.requires.1 (rw p.position-of.ensures at t.add-taps.ensures)
+    block_summed c.args.x c.args.row.now c.args.weights.now c.requires.0 c.args.c c.args.out.now c.requires.1 (rw c.position_of-from.ensures at c.add_taps.ensures)
 
 pub add_block_spec : {M : Type 1} → statement M
 add_block_spec =
     tie.close
     (tie.spec
-    (λ c. omega (arith, taps c.before.before.before.before)) (λ c. omega (arith, taps c.before.before.before.before)) (λ c κs. search rules)
-    (λ c. omega (arith, from c.before)) (λ c. omega (arith, from c.before)) (λ c. omega (arith, from c.before)) (λ c. omega (arith, from c.before))
-    (λ c. omega (arith, taps c.before.before.before.before.before.before.before)) (λ c. omega (arith, taps c.before.before.before.before.before.before.before))
-    (λ c. omega (arith, taps c.before.before.before.before.before.before.before)) (λ c. omega (arith, taps c.before.before.before.before.before.before.before))
-    (λ c. search rules) (λ c. search rules) (λ c κs. search rules) (λ c. c.before.before.add-taps.ensures.kept) returns)
+    (λ c. omega (arith, taps c.before.before.before.before)) (λ c. omega (arith, taps c.before.before.before.before)) (λ c κs. search rules) (λ c. omega (arith, from c.before)) (λ c. omega (arith, from c.before)) (λ c. omega (arith, from c.before)) (λ c. omega (arith, from c.before)) (λ c. omega (arith, taps c.before.before.before.before.before.before.before)) (λ c. omega (arith, taps c.before.before.before.before.before.before.before)) (λ c. omega (arith, taps c.before.before.before.before.before.before.before)) (λ c. omega (arith, taps c.before.before.before.before.before.before.before)) (λ c. search rules) (λ c. search rules) (λ c κs. search rules) (λ c. c.add_taps.ensures.kept) returns)

@@ -10,7 +10,7 @@ use Rattle.taps.proofs.Exact.{exactly_in}
 use Rattle.rows.specs.Rows.{Summed}
 use Rattle.rows.proofs.Rows.{summed_start}
 use Rattle.rows.proofs.Ranges.{blocks_none, range_more, range_all}
-use Rattle.places.proofs.Taps.{volume_is, channel_below}
+use Rattle.places.proofs.Taps.{volume_is}
 use Rattle.places.specs.Taps.{plane_taps}
 use Rattle.convolution.proofs.Inside.{depth_outside}
 use Rattle.convolution.specs.Inside.{channel_taps, depth_taps}
@@ -18,51 +18,46 @@ use Rattle.convolution.proofs.Runs.{columns_within}
 use Rattle.convolution.proofs.add_depths.Statement.{statement}
 use Rattle.convolution.proofs.add_depths.Tie as tie
 
-abbrev invariant_loop : tie.invariant_loop
+abbrev invariant_loop : tie.invariant-loop-k
 invariant_loop s input kernel f channel c out₀ first count k₀ out k =
     (k ≤ count) × Summed (λ x t. channel_taps s input kernel f channel c.output x (first * plane_taps s + t)) (k * plane_taps s) (length out₀) out₀ out
 
-abbrev decreases_loop : tie.decreases_loop
+abbrev decreases_loop : tie.decreases-loop-k
 decreases_loop s input kernel f channel c out₀ first count k₀ out k = count - k
 
-loop-holds : tie.Need-loop-init invariant_loop decreases_loop
+loop-holds : tie.Need-loop-k-init invariant_loop decreases_loop
 loop-holds c = (omega arith, rw zero-mul (summed_start _ _ _))
 
 -- the turn's depth is one of the range
-turn : (c : tie.In-loop invariant_loop decreases_loop) → let a = c.before.before.before.before.before.before.args in let k = a.f.depths.first + c.before.loop.k in
+turn : (c : tie.In-loop-k invariant_loop decreases_loop) → let a = c.args in let k = a.f.depths.first + c.loop-k.k in
     (k < a.s.z.kernel) × (tap_inside a.s.z a.f.depth k ≡ true)
-turn c = exactly_in c.before.before.before.before.before.before.requires.1.0.depths_are (omega arith) (omega (arith, c.loop-test.true))
+turn c = exactly_in c.requires.1.0.depths_are (omega arith) (omega (arith, c.loop-k-test.true))
 
-small : (c : tie.In-loop invariant_loop decreases_loop) → let a = c.before.before.before.before.before.before.args in a.f.depths.first + c.before.loop.k < 64
-small c = omega (arith, (turn c).0, c.before.before.before.before.before.before.requires.0.shape.sound.z.kernel_64)
+small : (c : tie.In-loop-k invariant_loop decreases_loop) → let a = c.args in a.f.depths.first + c.loop-k.k < 64
+small c = omega (arith, (turn c).0, c.requires.0.shape.sound.z.kernel_64)
 
-add-rows-requires : tie.Need-add-rows-requires invariant_loop decreases_loop
+add-rows-requires : tie.Need-add_rows-requires invariant_loop decreases_loop
 add-rows-requires c κs =
-    let i = c.before in
-    let a = i.before.before.before.before.before.before in
-    (a.requires.0, (a.requires.1.0, (record { channel_below = a.requires.1.1.0; depth_below = (turn i).0; depth_inside = (turn i).1 }, rw i.before.loop.invariant.1.kept a.requires.1.1.1)))
+    (c.requires.0, (c.requires.1.0, (record { channel_below = c.requires.1.1.0; depth_below = (turn c.before).0; depth_inside = (turn c.before).1 }, rw c.loop-k.invariant.1.kept c.requires.1.1.1)))
 
-loop-again : tie.Need-loop-preserved invariant_loop decreases_loop
+loop-again : tie.Need-loop-k-preserved invariant_loop decreases_loop
 loop-again c =
-    let t = c.before.before in
-    let i = t.before.before in
-    let l = i.before.loop in
-    let a = i.before.before.before.before.before.before.args in
-    (omega (arith, i.loop-test.true), range_more (channel_taps a.s _ _ a.f a.channel a.c.output) (plane_taps a.s) a.f.depths.first l.k l.invariant.1 (rw l.invariant.1.kept at t.add-rows.ensures))
+    let l = c.loop-k in
+    let a = c.args in
+    (omega (arith, c.loop-k-test.true), range_more (channel_taps a.s _ _ a.f a.channel a.c.output) (plane_taps a.s) a.f.depths.first l.k l.invariant.1 (rw l.invariant.1.kept at c.add_rows.ensures))
 
 returns : tie.Need-returns invariant_loop decreases_loop
 returns c =
-    let l = c.before.loop in
-    let a = c.before.before.before.before.before.before in
-    let s = a.args.s in
-    let e : l.k ≡ a.args.f.depths.count = omega (arith, l.invariant.0, c.loop-test.false) in
-    rw (volume_is s) at (range_all (channel_taps s _ _ a.args.f a.args.channel a.args.c.output) (plane_taps s) a.args.f.depths.first a.requires.1.0.depths_are
-    (λ x b t p q u v. blocks_none (depth_taps s _ _ a.args.f a.args.channel b a.args.c.output x) s.y.kernel s.x.kernel
-    (λ y k m n. depth_outside s a.requires.0.shape _ _ a.args.f a.requires.1.0 a.args.channel (columns_within s.x a.args.c a.requires.1.1.1 p) q m n v) t u)
+    let l = c.loop-k in
+    let s = c.args.s in
+    let e : l.k ≡ c.args.f.depths.count = omega (arith, l.invariant.0, c.loop-k-test.false) in
+    rw (volume_is s) at (range_all (channel_taps s _ _ c.args.f c.args.channel c.args.c.output) (plane_taps s) c.args.f.depths.first c.requires.1.0.depths_are
+    (λ x b t p q u v. blocks_none (depth_taps s _ _ c.args.f c.args.channel b c.args.c.output x) s.y.kernel s.x.kernel
+    (λ y k m n. depth_outside s c.requires.0.shape _ _ c.args.f c.requires.1.0 c.args.channel (columns_within s.x c.args.c c.requires.1.1.1 p) q m n v) t u)
     (rw e at l.invariant.1))
 
 pub add_depths_spec : {M : Type 1} → statement M
 add_depths_spec =
     tie.close
     (tie.spec
-    invariant_loop decreases_loop loop-holds (λ c. omega (arith, small c)) (λ c. omega (arith, small c)) add-rows-requires (λ c. omega (arith, small c.before.before.before.before)) (λ c. omega arith) loop-again (λ c. c.before.loop.invariant.1.kept) returns)
+    invariant_loop decreases_loop loop-holds (λ c. omega (arith, small c)) (λ c. omega (arith, small c)) add-rows-requires (λ c. omega (arith, small c.before.before.before.before)) (λ c. omega arith) loop-again (λ c. c.loop-k.invariant.1.kept) returns)

@@ -16,50 +16,45 @@ use Rattle.convolution.proofs.Runs.{columns_within}
 use Rattle.convolution.proofs.add_rows.Statement.{statement}
 use Rattle.convolution.proofs.add_rows.Tie as tie
 
-abbrev invariant_loop : tie.invariant_loop
+abbrev invariant_loop : tie.invariant-loop-k
 invariant_loop s input kernel f channel depth c out₀ first count k₀ out k =
     (k ≤ count) × Summed (λ x t. depth_taps s input kernel f channel depth c.output x (first * s.x.kernel + t)) (k * s.x.kernel) (length out₀) out₀ out
 
-abbrev decreases_loop : tie.decreases_loop
+abbrev decreases_loop : tie.decreases-loop-k
 decreases_loop s input kernel f channel depth c out₀ first count k₀ out k = count - k
 
-loop-holds : tie.Need-loop-init invariant_loop decreases_loop
+loop-holds : tie.Need-loop-k-init invariant_loop decreases_loop
 loop-holds c = (omega arith, rw zero-mul (summed_start _ _ _))
 
 -- the turn's row is one of the range
-turn : (c : tie.In-loop invariant_loop decreases_loop) → let a = c.before.before.before.before.before.before.args in let k = a.f.rows.first + c.before.loop.k in
+turn : (c : tie.In-loop-k invariant_loop decreases_loop) → let a = c.args in let k = a.f.rows.first + c.loop-k.k in
     (k < a.s.y.kernel) × (tap_inside a.s.y a.f.row k ≡ true)
-turn c = exactly_in c.before.before.before.before.before.before.requires.1.0.rows_are (omega arith) (omega (arith, c.loop-test.true))
+turn c = exactly_in c.requires.1.0.rows_are (omega arith) (omega (arith, c.loop-k-test.true))
 
-small : (c : tie.In-loop invariant_loop decreases_loop) → let a = c.before.before.before.before.before.before.args in a.f.rows.first + c.before.loop.k < 64
-small c = omega (arith, (turn c).0, c.before.before.before.before.before.before.requires.0.shape.sound.y.kernel_64)
+small : (c : tie.In-loop-k invariant_loop decreases_loop) → let a = c.args in a.f.rows.first + c.loop-k.k < 64
+small c = omega (arith, (turn c).0, c.requires.0.shape.sound.y.kernel_64)
 
-add-row-requires : tie.Need-add-row-requires invariant_loop decreases_loop
+add-row-requires : tie.Need-add_row-requires invariant_loop decreases_loop
 add-row-requires c κs =
-    let i = c.before in
-    let a = i.before.before.before.before.before.before in
-    (a.requires.0, (a.requires.1.0, (record { depth = a.requires.1.1.0; row_below = (turn i).0; row_inside = (turn i).1 }, rw i.before.loop.invariant.1.kept a.requires.1.1.1)))
+    (c.requires.0, (c.requires.1.0, (record { depth = c.requires.1.1.0; row_below = (turn c.before).0; row_inside = (turn c.before).1 }, rw c.loop-k.invariant.1.kept c.requires.1.1.1)))
 
-loop-again : tie.Need-loop-preserved invariant_loop decreases_loop
+loop-again : tie.Need-loop-k-preserved invariant_loop decreases_loop
 loop-again c =
-    let t = c.before.before in
-    let i = t.before.before in
-    let l = i.before.loop in
-    let a = i.before.before.before.before.before.before.args in
-    (omega (arith, i.loop-test.true), range_more (depth_taps a.s _ _ a.f a.channel a.depth a.c.output) a.s.x.kernel a.f.rows.first l.k l.invariant.1 (rw l.invariant.1.kept at t.add_row.ensures))
+    let l = c.loop-k in
+    let a = c.args in
+    (omega (arith, c.loop-k-test.true), range_more (depth_taps a.s _ _ a.f a.channel a.depth a.c.output) a.s.x.kernel a.f.rows.first l.k l.invariant.1 (rw l.invariant.1.kept at c.add_row.ensures))
 
 returns : tie.Need-returns invariant_loop decreases_loop
 returns c =
-    let l = c.before.loop in
-    let a = c.before.before.before.before.before.before in
-    let s = a.args.s in
-    let e : l.k ≡ a.args.f.rows.count = omega (arith, l.invariant.0, c.loop-test.false) in
-    range_all (depth_taps s _ _ a.args.f a.args.channel a.args.depth a.args.c.output) s.x.kernel a.args.f.rows.first a.requires.1.0.rows_are
-    (λ x b t p q u v. row_outside s a.requires.0.shape _ _ a.args.f a.requires.1.0 a.args.channel (columns_within s.x a.args.c a.requires.1.1.1 p) a.requires.1.1.0.depth_below q u v)
+    let l = c.loop-k in
+    let s = c.args.s in
+    let e : l.k ≡ c.args.f.rows.count = omega (arith, l.invariant.0, c.loop-k-test.false) in
+    range_all (depth_taps s _ _ c.args.f c.args.channel c.args.depth c.args.c.output) s.x.kernel c.args.f.rows.first c.requires.1.0.rows_are
+    (λ x b t p q u v. row_outside s c.requires.0.shape _ _ c.args.f c.requires.1.0 c.args.channel (columns_within s.x c.args.c c.requires.1.1.1 p) c.requires.1.1.0.depth_below q u v)
     (rw e at l.invariant.1)
 
 pub add_rows_spec : {M : Type 1} → statement M
 add_rows_spec =
     tie.close
     (tie.spec
-    invariant_loop decreases_loop loop-holds (λ c. omega (arith, small c)) (λ c. omega (arith, small c)) add-row-requires (λ c. omega (arith, small c.before.before.before.before)) (λ c. omega arith) loop-again (λ c. c.before.loop.invariant.1.kept) returns)
+    invariant_loop decreases_loop loop-holds (λ c. omega (arith, small c)) (λ c. omega (arith, small c)) add-row-requires (λ c. omega (arith, small c.before.before.before.before)) (λ c. omega arith) loop-again (λ c. c.loop-k.invariant.1.kept) returns)

@@ -16,28 +16,23 @@ first_output : (c : tie.Start) → c.args.line * c.args.s.x.out < c.args.s.outpu
 first_output c = omega (arith, c.requires.1.0, c.requires.0.shape.sound.x.out_1)
 
 -- the row is as long as it was
-long : (c : tie.After-start) → let a = c.before.before.before.before.before.before in length c.start.new.0 ≡ a.args.s.x.out
-long c = ap length c.start.ensures ∙ tabulate_length _ _ ∙ c.before.before.before.before.before.before.requires.1.1
+long : (c : tie.After-start) → length c.start.new.sums ≡ c.args.s.x.out
+long c = ap length c.start.ensures ∙ tabulate_length _ _ ∙ c.requires.1.1
 
-line-of-requires : tie.Need-line-of-requires
-line-of-requires c κs = let a = c.before.before.before.before.before.before.before.before in (a.requires.0.shape, first_output a)
+line-of-requires : tie.Need-line_of-f-requires
+line-of-requires c κs = (c.requires.0.shape, first_output c.before.before.before.before.before.before.before.before)
 
-add-line-requires : tie.Need-add-line-requires
+add-line-requires : tie.Need-add_line-requires
 add-line-requires c κs =
-    let t = c.before.before.before.before in
-    let a = t.before.before.before.before.before.before in
-    (a.requires.0, (c.before.line_of.ensures.1, long t))
+    (c.requires.0, (c.line_of-f.ensures.1, long c.before.before.before.before))
 
 returns : tie.Need-returns
 returns c =
-    let t = c.before.before.before.before.before.before.before in
-    let a = t.before.before.before.before.before.before in
-    line_is a.args.s _ _ a.requires.0 a.args.line c.before.before.before.before.line_of.ensures.0 a.requires.1.0 (t.start.ensures ∙ ap (tabulate _) a.requires.1.1)
-    (rw (long t) at c.before.before.add-line.ensures)
+    line_is c.args.s _ _ c.requires.0 c.args.line c.line_of-f.ensures.0 c.requires.1.0 (c.start.ensures ∙ ap (tabulate _) c.requires.1.1)
+    (rw (long c.before.before.before.before.before.before.before) at c.add_line.ensures)
 
 pub fill_line_spec : {M : Type 1} → statement M
 fill_line_spec =
     tie.close
     (tie.spec
-    (λ c. let a = c.before.before.before.before.before in kernel_pos a.args.s _ _ a.requires.0)
-    (λ c κs. search rules) line-of-requires add-line-requires (λ c. search rules) returns)
+    (λ c. kernel_pos c.args.s _ _ c.requires.0) (λ c κs. search rules) line-of-requires add-line-requires (λ c. search rules) returns)

@@ -12,20 +12,19 @@ use Rattle.convolution.proofs.part_from.Statement.{statement}
 use Rattle.convolution.proofs.part_from.Tie as tie
 
 -- what the test says
-wide : (c : tie.Then1) → let a = c.before.before.before.args in (9 ≤ a.x.kernel) × ((a.x.stride ≡ 1) × (a.p ≡ 0))
+wide : (c : tie.Then-x-n) → let a = c.args in (9 ≤ a.x.kernel) × ((a.x.stride ≡ 1) × (a.p ≡ 0))
 wide c =
-    let a = c.before.before.before.args in
-    let u = and_both (leb 9 a.x.kernel && leb 9 a.n && eqb a.x.stride 1) (eqb a.p 0) c.if1.true in
+    let a = c.args in
+    let u = and_both (leb 9 a.x.kernel && leb 9 a.n && eqb a.x.stride 1) (eqb a.p 0) c.if-x-n.true in
     let v = and_both (leb 9 a.x.kernel && leb 9 a.n) (eqb a.x.stride 1) u.0 in
     (leb-true _ _ (and_both (leb 9 a.x.kernel) (leb 9 a.n) v.0).0, (eqb-true _ _ v.1, eqb-true _ _ u.1))
 
-returns : tie.Need-returns
+returns : tie.Need-returns-then-x-n
 returns c =
-    let t = c.before in
-    let w = wide t in
+    let w = wide c.before in
     record {
       from = omega (arith, w.1.1);
-      some = t.before.before.before.requires;
+      some = c.requires;
       most = omega arith;
       inside = λ e. record {
         outputs = omega arith;
@@ -34,20 +33,19 @@ returns c =
       };
     }
 
-returns-2 : tie.Need-returns-2
+returns-2 : tie.Need-returns
 returns-2 c =
-    let r = c.before.before in
-    let a = r.before.before.before.before in
     record {
       from = refl;
-      some = omega (arith, c.least.ensures, r.run-from.ensures.some, a.requires);
-      most = omega (arith, c.least.ensures);
+      some = omega (arith, c.least-end.ensures, c.run_from-run.ensures.some, c.requires);
+      most = omega (arith, c.least-end.ensures);
       inside = λ e. record {
-        outputs = omega (arith, c.least.ensures, r.run-from.ensures.some, a.requires);
-        run = λ b. alike_columns a.args.x _ r.run-from.ensures refl (omega (arith, c.least.ensures, r.run-from.ensures.some, a.requires)) (omega (arith, c.least.ensures, r.run-from.ensures.some, a.requires));
+        outputs = omega (arith, c.least-end.ensures, c.run_from-run.ensures.some, c.requires);
+        run = λ b. alike_columns c.args.x _ c.run_from-run.ensures refl (omega (arith, c.least-end.ensures, c.run_from-run.ensures.some, c.requires)) (omega (arith, c.least-end.ensures, c.run_from-run.ensures.some, c.requires));
         row = λ b. absurd (true≢false b);
       };
     }
 
 pub part_from_spec : {M : Type 1} → statement M
-part_from_spec = tie.close (tie.spec (λ c. search rules) returns (λ c κs. search rules) (λ c κs. search rules) returns-2)
+part_from_spec = tie.close (tie.spec
+    (λ c. search rules) returns (λ c κs. search rules) (λ c κs. search rules) returns-2)

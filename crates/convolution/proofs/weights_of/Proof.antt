@@ -23,9 +23,4 @@ pub weights_of_spec : {M : Type 1} → statement M
 weights_of_spec =
     tie.close
     (tie.spec
-    (λ c. search rules) (λ c. omega (arith, (bounds c.before.before).depth_max)) (λ c. search rules) (λ c. omega (arith, (bounds c.before.before.before).depth_max))
-    (λ c. search rules) (λ c. omega (arith, (bounds c.before.before.before.before).row_max)) (λ c. search rules) (λ c. omega (arith, (bounds c.before.before.before.before.before).row_max))
-    (λ c. search rules) (λ c. omega (arith, numbered c.before.before.before.before.before.before))
-    (λ c. omega (arith, numbered c.before.before.before.before.before.before.before)) (λ c. omega (arith, numbered c.before.before.before.before.before.before.before))
-    (λ c. omega (arith, numbered c.before.before.before.before.before.before.before)) (λ c. omega (arith, numbered c.before.before.before.before.before.before.before))
-    (λ c. omega (arith, numbered c.before.before.before.before.before.before.before)) (λ c. omega (arith, numbered c.before.before.before.before.before.before.before)) returns)
+    (λ c. search rules) (λ c. omega (arith, (bounds c.before.before).depth_max)) (λ c. search rules) (λ c. omega (arith, (bounds c.before.before.before).depth_max)) (λ c. search rules) (λ c. omega (arith, (bounds c.before.before.before.before).row_max)) (λ c. search rules) (λ c. omega (arith, (bounds c.before.before.before.before.before).row_max)) (λ c. search rules) (λ c. omega (arith, numbered c.before.before.before.before.before.before)) (λ c. omega (arith, numbered c.before.before.before.before.before.before.before)) (λ c. omega (arith, numbered c.before.before.before.before.before.before.before)) (λ c. omega (arith, numbered c.before.before.before.before.before.before.before)) (λ c. omega (arith, numbered c.before.before.before.before.before.before.before)) (λ c. omega (arith, numbered c.before.before.before.before.before.before.before)) (λ c. omega (arith, numbered c.before.before.before.before.before.before.before)) returns)

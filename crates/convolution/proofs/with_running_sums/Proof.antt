@@ -10,22 +10,20 @@ use Rattle.convolution.proofs.with_running_sums.Statement.{statement}
 use Rattle.convolution.proofs.with_running_sums.Tie as tie
 
 fill-requires : tie.Need-fill-requires
-fill-requires c κs = fitting Convolution refl _ _ _ _ _ (sym c.before.before.before.before.check-sum.ensures ∙ c.before.before.verdict2.given.1)
+fill-requires c κs = fitting Convolution refl _ _ _ _ _ (sym c.check_sum-verdict.ensures ∙ c.in-Run.is)
 
-returns : tie.Need-returns
-returns c = refused_call Convolution refl Running place_of in_range_lem _ _ _ _ _ (sym c.before.before.before.check-sum.ensures ∙ c.before.verdict.given.1)
+returns : tie.Need-returns-in-Refuse
+returns c = refused_call Convolution refl Running place_of in_range_lem _ _ _ _ _ (sym c.check_sum-verdict.ensures ∙ c.in-Refuse.is)
 
-returns-2 : tie.Need-returns-2
+returns-2 : tie.Need-returns-in-Run
 returns-2 c =
-    let k = c.before.before.before.before.before.before.before.before in
-    filled_call Convolution refl Running place_of in_range_lem _ _ _ k.before.before.before.before.args.output.now _ _ _
-    (sym k.check-sum.ensures ∙ c.before.before.before.before.before.before.verdict2.given.1)
-    c.before.before.before.fill.ensures
+    filled_call Convolution refl Running place_of in_range_lem _ _ _ c.args.output.now _ _ _
+    (sym c.check_sum-verdict.ensures ∙ c.in-Run.is)
+    c.fill.ensures
     c.numbered.ensures
 
 pub with_running_sums_spec : {M : Type 1} → statement M
 with_running_sums_spec =
     tie.close
     (tie.spec
-    (λ c κs. search rules) (λ c. search rules) (λ c. search rules) fill-requires (λ c κs. search rules) returns
-    (λ c. search rules) returns-2)
+    (λ c κs. search rules) (λ c. search rules) (λ c. search rules) fill-requires (λ c κs. search rules) returns (λ c. search rules) returns-2)
