@@ -8,19 +8,18 @@ use borrow.Author.Rules.{rules}
 use Rattle.pooling.proofs.index_of.Statement.{statement}
 use Rattle.pooling.proofs.index_of.Tie as tie
 
-small : (c : tie.After-known-told) → c.before.w.given.0.1.0 % c.before.before.before.args.modulus < 2 ^ 63
+small : (c : tie.In-Best) → c.in-Best.p % c.args.modulus < 2 ^ 63
 small c =
-    let s = c.before.before.before in
-    lt_trans (lt_of_lt_of_le (mod-lt c.before.w.given.0.1.0 s.requires.0) s.requires.1) (lit< tt)
+    lt_trans (lt_of_lt_of_le (mod-lt c.in-Best.p c.requires.0) c.requires.1) (lit< tt)
 
-returns : tie.Need-returns
-returns c = rw c.enum_told.given.1
+returns : tie.Need-returns-in_default
+returns c = rw c.in_default.is
 
-cast-result : tie.Need-overflow-cast-result
+cast-result : tie.Need-overflow_cast-result
 cast-result c = record { sfits = small c }
 
-returns-2 : tie.Need-returns-2
-returns-2 c = rw (to_z_pos w64 (small c), c.before.w.given.1)
+returns-2 : tie.Need-returns
+returns-2 c = rw (to_z_pos w64 (small c), c.in-Best.is)
 
 pub index_of_spec : {M : Type 1} → statement M
 index_of_spec =

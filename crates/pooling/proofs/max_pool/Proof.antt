@@ -10,33 +10,31 @@ use Rattle.pooling.proofs.max_pool.Statement.{statement}
 use Rattle.pooling.proofs.max_pool.Tie as tie
 
 -- the verdict of a call that is run
-runs : (c : tie.After-known-told2) → let a = c.before.before.before.before.before.before.args in call_verdict a.layer a.input.now a.values.now a.indices.now ≡ Run c.before.verdict2.given.0.0
-runs c = sym c.before.before.before.check-pool.ensures ∙ c.before.verdict2.given.1
+runs : (c : tie.In-Run) → let a = c.args in call_verdict a.layer a.input.now a.values.now a.indices.now ≡ Run c.in-Run.s
+runs c = sym c.check_pool-verdict.ensures ∙ c.in-Run.is
 
 fill-requires : tie.Need-fill-requires
 fill-requires c κs =
     let k = c.before.before in
-    let a = k.before.before.before.before.before.before.args in
+    let a = k.args in
     let f = pool_fitting a.layer a.input.now (length a.values.now) (length a.indices.now) _ (runs k) in
     (f.shape, (f.input_length, f.values_length, f.indices_length))
 
-returns : tie.Need-returns
+returns : tie.Need-returns-in-Refuse
 returns c =
-    let k = c.before.before.before in
-    let a = k.before.before.before.args in
-    let e = sym k.check-pool.ensures ∙ c.before.verdict.given.1 in
+    let a = c.args in
+    let e = sym c.check_pool-verdict.ensures ∙ c.in-Refuse.is in
     (refuse_answer _ _ e, (refuse_leaves _ (pooled_value a.input.now) a.values.now _ e, refuse_leaves _ (pooled_index a.input.now) a.indices.now _ e))
 
-returns-2 : tie.Need-returns-2
+returns-2 : tie.Need-returns-in-Run
 returns-2 c =
-    let f = c.before.before.before.before in
-    let k = f.before.before.before in
-    let a = k.before.before.before.before.before.before.args in
+    let k = c.before.before.before.before.before.before.before in
+    let a = k.args in
     let e = runs k in (
       c.numbered.ensures ∙ run_answer _ _ e,
       (
-        f.fill.ensures.0 ∙ run_leaves _ (pooled_value a.input.now) a.values.now _ e,
-        f.fill.ensures.1 ∙ run_leaves _ (pooled_index a.input.now) a.indices.now _ e,
+        c.fill.ensures.0 ∙ run_leaves _ (pooled_value a.input.now) a.values.now _ e,
+        c.fill.ensures.1 ∙ run_leaves _ (pooled_index a.input.now) a.indices.now _ e,
       ),
     )
 

@@ -17,50 +17,47 @@ use Rattle.pooling.proofs.with_row.Statement.{statement}
 use Rattle.pooling.proofs.with_row.Tie as tie
 
 -- the row lies in the input
-fits : (c : tie.After-known-told)
-    → let s = c.before.before.before.before.before.args in (s.first + c.before.t.given.0.0) * s.s.x.input + s.s.x.input ≤ length s.input.now
+fits : (c : tie.In-At)
+    → let s = c.args in (s.first + c.in-At.r) * s.s.x.input + s.s.x.input ≤ length s.input.now
 fits c =
-    let s = c.before.before.before.before.before in
-    let h = below_at _ _ _ (rows_below forward s.args.s forward_below s.args.p s.args.k) (sym c.before.before.before.row_tap_lem.ensures ∙ c.before.t.given.1) in
-    le_trans (part_within s.args.s.x.input (omega (arith, h))) s.requires.1
+    let h = below_at _ _ _ (rows_below forward c.args.s forward_below c.args.p c.args.k) (sym c.row_tap-t.ensures ∙ c.in-At.is) in
+    le_trans (part_within c.args.s.x.input (omega (arith, h))) c.requires.1
 
-add-from : tie.Need-overflow-add-from
+add-from : tie.Need-overflow_add-from
 add-from c =
-    let s = c.before.before.before.before.before.before in
-    let g = le-mul_of_pos_right (s.args.first + c.before.before.t.given.0.0) s.requires.0 in
-    omega (arith, fits c.before, g, s.well-formed)
+    let g = le-mul_of_pos_right (c.args.first + c.in-At.r) c.requires.0 in
+    omega (arith, fits c.before, g, c.well_formed)
 
-mul-from : tie.Need-overflow-mul-from
-mul-from c = omega (arith, fits c.before, c.before.before.before.before.before.before.well-formed)
+mul-from : tie.Need-overflow_mul-from
+mul-from c = omega (arith, fits c.before, c.well_formed)
 
-add-to : tie.Need-overflow-add-to
-add-to c = omega (arith, fits c.before, c.before.before.before.before.before.before.well-formed)
+add-to : tie.Need-overflow_add-to
+add-to c = omega (arith, fits c.before, c.well_formed)
 
-mul-scan-row : tie.Need-overflow-mul-scan-row
-mul-scan-row c = omega (arith, fits c.before, c.before.before.before.before.before.before.well-formed)
+mul-scan-row : tie.Need-offset_bounds-input-from
+mul-scan-row c = omega (arith, fits c.before, c.well_formed)
 
-part-scan-row-end : tie.Need-slice-bounds-scan-row-end
+part-scan-row-end : tie.Need-slice_bounds-scan_row-end
 part-scan-row-end c = omega (arith, fits c.before)
 
-scan-row-requires : tie.Need-scan-row-requires
+scan-row-requires : tie.Need-scan_row-requires
 scan-row-requires c κs =
-    let s = c.before.before.before.before.before.before.before in
-    let h = fits c.before.before in
-    let l = part_length s.args.input.now _ s.args.s.x.input h in
-    (rw (add-sub_cancel_left _ s.args.s.x.input) l, omega (arith, h, s.well-formed))
+    let h = fits c.before.before.before in
+    let l = part_length c.args.input.now _ c.args.s.x.input h in
+    (rw (add-sub_cancel_left _ c.args.s.x.input) l, omega (arith, h, c.well_formed))
 
-returns : tie.Need-returns
+returns : tie.Need-returns-in-Outside
 returns c =
-    let s = c.before.before.before.before.args in
-    ap (λ (t : Tap). after_tap (row_step s.input.now s.first s.s.x s.q) t s.w) (sym c.enum_told.given.1 ∙ c.before.before.row_tap_lem.ensures)
+    let s = c.args in
+    ap (λ (t : Tap). after_tap (row_step s.input.now s.first s.s.x s.q) t s.w) (sym c.in-Outside.is ∙ c.row_tap-t.ensures)
 
-returns-2 : tie.Need-returns-2
+returns-2 : tie.Need-returns-in-At
 returns-2 c =
     let t = c.before.before.before.before in
-    let s = t.before.before.before.before.args in
-    c.scan-row.ensures
-    ∙ row_part s.input.now s.s.x s.q (s.first + t.t.given.0.0) s.w
-    ∙ ap (λ (t : Tap). after_tap (row_step s.input.now s.first s.s.x s.q) t s.w) (sym t.t.given.1 ∙ t.before.before.row_tap_lem.ensures)
+    let s = t.args in
+    c.scan_row.ensures
+    ∙ row_part s.input.now s.s.x s.q (s.first + t.in-At.r) s.w
+    ∙ ap (λ (t : Tap). after_tap (row_step s.input.now s.first s.s.x s.q) t s.w) (sym t.in-At.is ∙ t.row_tap-t.ensures)
 
 pub with_row_spec : {M : Type 1} → statement M
 with_row_spec =

@@ -10,31 +10,31 @@ use Rattle.pooling.proofs.with_tap.Statement.{statement}
 use Rattle.pooling.proofs.with_tap.Tie as tie
 
 -- the tap's column
-within : (c : tie.After-known-told) → c.before.t.given.0.0 < c.before.before.before.before.before.args.x.input
+within : (c : tie.In-At) → c.in-At.c < c.args.x.input
 within c =
-    let s = c.before.before.before.before.before.args in
-    below_at _ _ _ (forward_below s.x s.q s.k) (sym c.before.before.before.forward.ensures ∙ c.before.t.given.1)
+    let s = c.args in
+    below_at _ _ _ (forward_below s.x s.q s.k) (sym c.forward-t.ensures ∙ c.in-At.is)
 
-mul-better : tie.Need-overflow-mul-better
+mul-better : tie.Need-offset_bounds-row-c
 mul-better c = omega (arith, within c)
 
-shared-slice-read-better : tie.Need-shared-slice-read-better
-shared-slice-read-better c = omega (arith, within c.before, c.before.before.before.before.before.before.requires.0)
+shared-slice-read-better : tie.Need-bounds-row-c
+shared-slice-read-better c = omega (arith, within c.before, c.requires.0)
 
-add-better : tie.Need-overflow-add-better
-add-better c = omega (arith, within c.before, c.before.before.before.before.before.before.requires.1)
+add-better : tie.Need-overflow_add-start
+add-better c = omega (arith, within c.before, c.requires.1)
 
-returns : tie.Need-returns
+returns : tie.Need-returns-in-Outside
 returns c =
-    let s = c.before.before.before.before.args in
-    ap (λ (t : Tap). after_tap (column_step s.row.now s.start) t s.w) (sym c.enum_told.given.1 ∙ c.before.before.forward.ensures)
+    let s = c.args in
+    ap (λ (t : Tap). after_tap (column_step s.row.now s.start) t s.w) (sym c.in-Outside.is ∙ c.forward-t.ensures)
 
-returns-2 : tie.Need-returns-2
+returns-2 : tie.Need-returns-in-At
 returns-2 c =
-    let s = c.before.before.before.before.before.before.before.args in
+    let s = c.args in
     c.better.ensures
     ∙ ap (λ (t : Tap). after_tap (column_step s.row.now s.start) t s.w)
-    (sym c.before.before.before.t.given.1 ∙ c.before.before.before.before.before.forward.ensures)
+    (sym c.in-At.is ∙ c.forward-t.ensures)
 
 pub with_tap_spec : {M : Type 1} → statement M
 with_tap_spec =

@@ -17,55 +17,47 @@ use Rattle.transposed.proofs.add_row.Statement.{statement}
 use Rattle.transposed.proofs.add_row.Tie as tie
 
 -- the kernel row lies at row y of the input
-place : (c : tie.After-tap) → let a = c.before.before.before.before.before.before.args in on_rows backward a.s a.f.row a.k ≡ At c.tap.given.0.0
-place c = sym c.before.before.row_tap_lem.ensures ∙ c.tap.given.1
+place : (c : tie.In-At) → let a = c.args in on_rows backward a.s a.f.row a.k ≡ At c.in-At.y
+place c = sym c.row_tap-tap.ensures ∙ c.in-At.is
 
-bounds : (c : tie.After-tap) {height lines : ℕ} → let a = c.before.before.before.before.before.before.args in
-    height ≡ kernel_rows a.s → lines ≡ input_rows a.s → RowBounds a.s a.f a.i a.k c.tap.given.0.0 height lines (length a.input.now) (length a.kernel.now)
+bounds : (c : tie.In-At) {height lines : ℕ} → let a = c.args in
+    height ≡ kernel_rows a.s → lines ≡ input_rows a.s → RowBounds a.s a.f a.i a.k c.in-At.y height lines (length a.input.now) (length a.kernel.now)
 bounds c eh el =
-    let a = c.before.before.before.before.before.before in
-    let s = a.args.s in
-    row_bounds s a.args.f _ _ a.requires.0 a.requires.1.0 a.requires.1.1.0 a.requires.1.1.1.0 (below_at _ _ _ (rows_below backward s backward_below _ _) (place c)) eh el
+    let s = c.args.s in
+    row_bounds s c.args.f _ _ c.requires.0 c.requires.1.0 c.requires.1.1.0 c.requires.1.1.1.0 (below_at _ _ _ (rows_below backward s backward_below _ _) (place c)) eh el
 
 -- the same by the numbers that the code was told: the input's rows, and the kernel's
-lines : (c : tie.After-input-rows) → let t = c.before.before.before in let a = t.before.before.before.before.before.before.args in
-    RowBounds a.s a.f a.i a.k t.tap.given.0.0 (kernel_rows a.s) c.input-rows.result (length a.input.now) (length a.kernel.now)
-lines c = bounds c.before.before.before refl c.input-rows.ensures
+lines : (c : tie.After-input_rows) → let a = c.args in
+    RowBounds a.s a.f a.i a.k c.in-At.y (kernel_rows a.s) c.input_rows.result (length a.input.now) (length a.kernel.now)
+lines c = bounds c.before.before refl c.input_rows.ensures
 
-weights : (c : tie.After-kernel-rows) → let t = c.before.before.before.before.before.before.before.before in let a = t.before.before.before.before.before.before.args in
-    RowBounds a.s a.f a.i a.k t.tap.given.0.0 c.kernel-rows.result (input_rows a.s) (length a.input.now) (length a.kernel.now)
-weights c = bounds c.before.before.before.before.before.before.before.before c.kernel-rows.ensures refl
+weights : (c : tie.After-kernel_rows) → let a = c.args in
+    RowBounds a.s a.f a.i a.k c.in-At.y c.kernel_rows.result (input_rows a.s) (length a.input.now) (length a.kernel.now)
+weights c = bounds c.before.before.before.before.before.before.before c.kernel_rows.ensures refl
 
-axis : (c : tie.After-struct-known5) → SpanLimits c.before.before.before.before.before.before.before.before.before.before.before.before.before.before.before.args.s.x
-axis c = c.before.before.before.before.before.before.before.before.before.before.before.before.before.before.before.requires.0.shape.sound.x
+axis : (c : tie.After-struct_known-5-1) → SpanLimits c.args.s.x
+axis c = c.requires.0.shape.sound.x
 
-returns : tie.Need-returns
+returns : tie.Need-returns-in_default
 returns c =
-    let r = c.before.before in
-    let a = r.before.before.before.before in
-    row_away a.args.s a.args.input.now a.args.kernel.now a.args.f a.args.i a.requires.1.1.1.0 (sym c.enum_told.given.1 ∙ r.row_tap_lem.ensures)
+    row_away c.args.s c.args.input.now c.args.kernel.now c.args.f c.args.i c.requires.1.1.1.0 (sym c.in_default.is ∙ c.row_tap-tap.ensures)
 
-add-taps-requires : tie.Need-add-taps-requires
+add-taps-requires : tie.Need-add_taps-requires
 add-taps-requires c κs =
-    let o = c.before.before.before.before in
-    let x = axis o.before in
-    ((x.stride_1, (x.stride_16, (x.dilation_16, x.begin_1024))), rw (o.row-of2.ensures, row_of_length _ _ (weights o.before.before).part) x.kernel_64)
+    let x = axis c.before.before.before.before.before in
+    ((x.stride_1, (x.stride_16, (x.dilation_16, x.begin_1024))), rw (c.row_of-weights.ensures, row_of_length _ _ (weights c.before.before.before.before.before.before).part) x.kernel_64)
 
-returns-2 : tie.Need-returns-2
+returns-2 : tie.Need-returns
 returns-2 c =
-    let o = c.before.before.before.before.before.before.before in
-    let k = o.before.before in
-    let i = k.before.before.before.before.before in
-    let t = i.before.before.before in
-    let a = t.before.before.before.before.before.before in
-    let s = a.args.s in
-    let f = a.args.f in
-    row_taps_lem s a.args.input.now a.args.kernel.now f a.args.i a.requires.1.1.1.0 _ _ _ (sym (place t))
-    (k.before.before.before.row_of.ensures ∙ ap (λ (n : ℕ). row_of a.args.input.now ((f.plane + a.args.i) * n + t.tap.given.0.0) s.x.input) i.input-rows.ensures)
-    (o.row-of2.ensures ∙ ap (λ (n : ℕ). row_of a.args.kernel.now ((f.weight + a.args.i * s.o) * n + a.args.k) s.x.kernel) k.kernel-rows.ensures)
-    (bounds t refl refl) (rw a.requires.1.1.1.1 at c.before.before.add-taps.ensures)
+    let t = c.before.before.before.before.before.before.before.before.before.before.before.before.before.before.before.before in
+    let s = t.args.s in
+    let f = t.args.f in
+    row_taps_lem s t.args.input.now t.args.kernel.now f t.args.i t.requires.1.1.1.0 _ _ _ (sym (place t))
+    (c.row_of-row.ensures ∙ ap (λ (n : ℕ). row_of t.args.input.now ((f.plane + t.args.i) * n + t.in-At.y) s.x.input) c.input_rows.ensures)
+    (c.row_of-weights.ensures ∙ ap (λ (n : ℕ). row_of t.args.kernel.now ((f.weight + t.args.i * s.o) * n + t.args.k) s.x.kernel) c.kernel_rows.ensures)
+    (bounds t refl refl) (rw t.requires.1.1.1.1 at c.add_taps.ensures)
 
-same_length : tie.Need-same-length
+same_length : tie.Need-shape_of-out
 same_length c = (returns-2 c).kept
 
 pub add_row_spec : {M : Type 1} → statement M
@@ -73,7 +65,7 @@ add_row_spec =
     tie.close
     (tie.spec
     (λ c. search rules) (λ c κs. search rules) (λ c. search rules) (λ c. search rules) returns
-    (λ c. omega (arith, bounds c.before.before refl refl)) (λ c κs. search rules) (λ c. omega (arith, lines c)) (λ c. omega (arith, lines c))
+    (λ c. omega (arith, bounds c.before refl refl)) (λ c κs. search rules) (λ c. omega (arith, lines c)) (λ c. omega (arith, lines c))
     (λ c. search rules) (λ c κs. (lines c.before).row)
     (λ c. omega (arith, lines c.before.before.before))
     (λ c. omega (arith, lines c.before.before.before.before)) (λ c κs. search rules)

@@ -1,0 +1,23 @@
+-- By the verdict, as every convolution's call: `refused-call` and `filled-call` are the two cases.
+use mathlib.Core.Path.{refl, sym, ◌∙◌}
+use Rattle.layer.specs.declared.Op.TheVariants.{Transposed}
+use Rattle.sums.specs.declared.Profile.TheVariants.{Running}
+use Rattle.call.proofs.Outcome.{fitting, refused_call, filled_call}
+use Rattle.transposed.specs.Transposed.{place_of}
+use Rattle.transposed.proofs.Places.{in_range_lem}
+use Rattle.transposed.proofs.transposed.Goals as goal
+
+pub fill-requires : goal.fill-requires
+fill-requires c =
+    let t = fitting Transposed refl _ _ _ _ _ (sym c.check_sum-verdict.ensures ∙ c.in-Run.is) in
+    record { fitting = t.0; output_len = t.1 }
+
+pub returns-in-Refuse : goal.returns-in-Refuse
+returns-in-Refuse c =
+    let t = refused_call Transposed refl Running place_of in_range_lem _ _ _ c.args.output.now _ (sym c.check_sum-verdict.ensures ∙ c.in-Refuse.is) in
+    record { answer = t.0; contents = t.1.0; whole = t.1.1.0; finite = t.1.1.1 }
+
+pub returns-in-Run : goal.returns-in-Run
+returns-in-Run c =
+    let t = filled_call Transposed refl Running place_of in_range_lem _ _ _ c.args.output.now _ _ _ (sym c.check_sum-verdict.ensures ∙ c.in-Run.is) c.fill.ensures c.numbered.ensures in
+    record { answer = t.0; contents = t.1.0; whole = t.1.1.0; finite = t.1.1.1 }
