@@ -103,6 +103,7 @@ pub fn starts(t: &[u8], w: &[u8]) -> bool
 }
 
 // Whether the text is w.
+#[tactic(auto, using(crate::proofs::TextLaws::same_not, crate::proofs::TextLaws::same_front))]
 pub fn is_text(t: &[u8], w: &[u8]) -> bool
     ensures { result ≡ same w.now t.now }
 {

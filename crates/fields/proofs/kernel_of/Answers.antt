@@ -1,0 +1,11 @@
+-- `kernel_of` meets its contract, operator by operator.
+use Rattle.fields.proofs.kernel_of.Goals as goal
+
+pub returns-in-Convolution : goal.returns-in-Convolution
+returns-in-Convolution c = rw c.in-Convolution.is
+
+pub returns-in-Transposed : goal.returns-in-Transposed
+returns-in-Transposed c = rw c.in-Transposed.is
+
+pub returns-in-MaxPool : goal.returns-in-MaxPool
+returns-in-MaxPool c = rw c.in-MaxPool.is
