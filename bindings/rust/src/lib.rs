@@ -32,7 +32,7 @@
 //!  - The target is x86-64 Linux.
 //!  - The archive that is linked has the version of these bindings. [`version`] tells.
 //!
-//! [`answers`] has the same calls with the boundary's own structs. The build links `libkozamyure.a` from `target/staticlib` of the library's folder, or
+//! [`answers`] has the same calls with the boundary's own structs. The build links `libkozamyure.a` from `crates/kozamyure/out` of the library's folder, or
 //! from the folder that the variable KOZAMYURE_LIB names by its whole path.
 #![deny(missing_docs, unsafe_code)]
 use std::hint::black_box;

@@ -1,14 +1,15 @@
 // Judges a layer sheet: reads standard input and prints the report of its first 512 bytes. Which bytes are judged and what is printed is the work of `report`.
 #![tactic(auto)]
 
-use libc::{STDIN_FILENO, STDOUT_FILENO};
+use std::io;
+use std::io::Read;
 
-fn main() {
+fn main(rt: HostRuntime) -> io::Result<()> {
+    let mut input = Vec::new(rt.alloc());
     // More than is judged.
-    let mut input = [0u8; 1024];
-    let n = io::read_full(STDIN_FILENO, &mut input);
+    rt.reader().take(1024).read_to_end(&mut input)?;
     // No report is longer.
     let mut text = [0u8; 80];
-    let end = report::report(&input[..n], &mut text);
-    io::write_all(STDOUT_FILENO, &text[..end]);
+    let end = report::report(&input, &mut text);
+    rt.write_all(&text[..end])
 }

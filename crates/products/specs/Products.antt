@@ -11,17 +11,17 @@ use Rattle.call.specs.Checks.{sum_verdict}
 use Rattle.places.specs.Places.{place_of}
 use Rattle.products.specs.Pairs.{pairs_below}
 
--- "the number of (output, tap) pairs whose tap lies inside the input": output number j of [N, G-as-O, OZ, OY, OX] and tap number t of [I, KZ, KY, KX], at the places
+-- The number of (output, tap) pairs whose tap lies inside the input: output number j of [N, G-as-O, OZ, OY, OX] and tap number t of [I, KZ, KY, KX], at the places
 -- of which the output is the sum
 unfoldable pub products : Shape → ℕ
 products s = pairs_below s.outputs s.taps (λ j t. is_inside (place_of s j t))
 
--- "A refused call reports 0"
+-- A refused call reports 0.
 unfoldable pub products_in : Verdict → ℕ
 products_in (Run s) = products s
 products_in (Refuse answer) = 0
 
--- "Convolution, in either profile, reports how many products it formed", by no profile; "transposed convolution and pooling report none"
+-- Convolution, in either profile, reports how many products it formed, by no profile; transposed convolution and pooling report none.
 abbrev pub products_of : Op → Layer → List Float → List Float → ℕ → ℕ
 products_of Convolution l input kernel output = products_in (sum_verdict Convolution l input kernel output)
 products_of Transposed l input kernel output = 0

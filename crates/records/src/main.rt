@@ -11,10 +11,11 @@ ghost use Rattle.std.specs.Prelude.{◌≤◌};
 use cases::{after_line, after_sheet, value_of};
 use convolution::convolution;
 use layer::{Axis, Layer, Rounding};
-use libc::{STDIN_FILENO, STDOUT_FILENO};
 use lines::Read;
 use pooling::max_pool;
 use sheet::{read_sheet, write_sheet};
+use std::io;
+use std::io::Read as _;
 use sums::Profile;
 use tensor::pick_plane;
 use text::{Items, Number, Numbers, is_text, part_of, read_number, read_numbers, starts};
@@ -30,12 +31,12 @@ const BYTE_MARK: u8 = 35;
 
 // ---- printing
 
-fn print(text: &[u8]) {
-    io::write_all(STDOUT_FILENO, text);
+fn print(rt: &impl Print, text: &[u8]) -> io::Result<()> {
+    rt.write_all(text)
 }
 
-fn print_number(n: u64) {
-    io::print_decimal(STDOUT_FILENO, n);
+fn print_number(rt: &impl Print, n: u64) -> io::Result<()> {
+    rt.print(n)
 }
 
 // The whole number below 1,000 that a value is, or 1,000.
@@ -50,95 +51,92 @@ fn whole_of(value: f32) -> u16 {
     n
 }
 
-fn print_magnitude(value: f32) {
+fn print_magnitude(rt: &impl Print, value: f32) -> io::Result<()> {
     let n = whole_of(value);
     if n < 1000 {
-        print_number(n as u64);
+        print_number(rt, n as u64)
     } else {
-        print(b"?");
+        print(rt, b"?")
     }
 }
 
 // A whole number from 0 on. No case expects another value; -0 is told apart from 0.
-fn print_value(value: f32) {
+fn print_value(rt: &impl Print, value: f32) -> io::Result<()> {
     if 1.0 / value < 0.0 {
-        print(b"-");
+        print(rt, b"-")?;
     }
-    print_magnitude(value);
+    print_magnitude(rt, value)
 }
 
 // The only index that a tensor of one element has is 0.
-fn print_index(index: i64) {
+fn print_index(rt: &impl Print, index: i64) -> io::Result<()> {
     if index == 0 {
-        print(b"0");
+        print(rt, b"0")
     } else {
-        print(b"?");
+        print(rt, b"?")
     }
 }
 
-fn print_kept(kept: bool) {
+fn print_kept(rt: &impl Print, kept: bool) -> io::Result<()> {
     if kept {
-        print(b"kept");
+        print(rt, b"kept")
     } else {
-        print(b"changed");
+        print(rt, b"changed")
     }
 }
 
 // ---- the operators
 
-fn print_output(number: u32, output: f32) {
-    print_number(number as u64);
-    print(b" ");
+fn print_output(rt: &impl Print, number: u32, output: f32) -> io::Result<()> {
+    print_number(rt, number as u64)?;
+    print(rt, b" ")?;
     if output == MARK {
-        print(b"kept");
-        return;
+        return print(rt, b"kept");
     }
-    print_value(output);
+    print_value(rt, output)
 }
 
-fn run_convolution(name: &[u8], profile: Profile, layer: Layer) {
+fn run_convolution(rt: &impl Print, name: &[u8], profile: Profile, layer: Layer) -> io::Result<()> {
     let input = [2.0f32];
     let kernel = [3.0f32];
     let mut output = [MARK];
     let answer = convolution(profile, layer, &input, &kernel, &mut output);
-    print(name);
-    print_output(answer.number, output[0]);
+    print(rt, name)?;
+    print_output(rt, answer.number, output[0])
 }
 
-fn run_transposed(layer: Layer) {
+fn run_transposed(rt: &impl Print, layer: Layer) -> io::Result<()> {
     let input = [2.0f32];
     let kernel = [3.0f32];
     let mut output = [MARK];
     let answer = transposed(layer, &input, &kernel, &mut output);
-    print(b" transposed=");
-    print_output(answer.number, output[0]);
+    print(rt, b" transposed=")?;
+    print_output(rt, answer.number, output[0])
 }
 
 // A value with its index.
-fn print_best(value: f32, index: i64) {
+fn print_best(rt: &impl Print, value: f32, index: i64) -> io::Result<()> {
     let kept = value == MARK;
     if kept != (index == INDEX_MARK) {
-        print(b"mixed");
-        return;
+        return print(rt, b"mixed");
     }
     if kept {
-        print(b"kept");
-        return;
+        return print(rt, b"kept");
     }
-    print_value(value);
-    print(b"@");
-    print_index(index);
+    print_value(rt, value)?;
+    print(rt, b"@")?;
+    print_index(rt, index)
 }
 
-fn run_max_pool(layer: Layer) {
+fn run_max_pool(rt: &impl Print, layer: Layer) -> io::Result<()> {
     let input = [2.0f32];
     let mut values = [MARK];
     let mut indices = [INDEX_MARK];
     let answer = max_pool(layer, &input, &mut values, &mut indices);
-    print(b" maxpool=");
-    print_number(answer.number as u64);
-    print(b" ");
-    print_best(values[0], indices[0]);
+    print(rt, b" maxpool=")?;
+    print_number(rt, answer.number as u64)?;
+    print(rt, b" ")?;
+    print_best(rt, values[0], indices[0])
 }
 
 // ---- the writer
@@ -156,42 +154,42 @@ fn is_kept(bytes: &[u8]) -> bool {
 }
 
 // A sheet on one line: its line ends are printed as bars.
-fn print_sheet(sheet: &[u8]) {
+fn print_sheet(rt: &impl Print, sheet: &[u8]) -> io::Result<()> {
     let mut i = 0;
     while i < sheet.len() {
         if sheet[i] == 10 {
-            print(b"|");
+            print(rt, b"|")?;
         } else {
-            print(part_of(sheet, i, i + 1));
+            print(rt, part_of(sheet, i, i + 1))?;
         }
         i += 1;
     }
+    Ok(())
 }
 
-fn print_written(written: Written, buffer: &[u8; 512]) {
-    print(b" write=");
-    print_number(written.number as u64);
-    print(b" line=");
-    print_number(written.line as u64);
-    print(b" length=");
-    print_number(written.length as u64);
-    print(b" ");
+fn print_written(rt: &impl Print, written: Written, buffer: &[u8; 512]) -> io::Result<()> {
+    print(rt, b" write=")?;
+    print_number(rt, written.number as u64)?;
+    print(rt, b" line=")?;
+    print_number(rt, written.line as u64)?;
+    print(rt, b" length=")?;
+    print_number(rt, written.length as u64)?;
+    print(rt, b" ")?;
     if written.number != 0 {
-        print_kept(is_kept(buffer));
-        return;
+        return print_kept(rt, is_kept(buffer));
     }
-    print_sheet(part_of(buffer, 0, written.length));
-    print(b" rest=");
-    print_kept(is_kept(part_of(buffer, written.length, buffer.len())));
+    print_sheet(rt, part_of(buffer, 0, written.length))?;
+    print(rt, b" rest=")?;
+    print_kept(rt, is_kept(part_of(buffer, written.length, buffer.len())))
 }
 
 // The buffer goes on behind the bytes that are lent.
-fn run_write(layer: Layer, room: usize)
+fn run_write(rt: &impl Print, layer: Layer, room: usize) -> io::Result<()>
     requires { room ≤ 480 }
 {
     let mut buffer = [BYTE_MARK; 512];
     let written = write_sheet(layer, &mut buffer[..room]);
-    print_written(written, &buffer);
+    print_written(rt, written, &buffer)
 }
 
 // ---- reading the cases
@@ -301,31 +299,32 @@ fn changed(l: Layer, change: &[u8]) -> Layer {
 
 // ---- the cases
 
-fn run_layer(layer: Layer, room: usize)
+fn run_layer(rt: &impl Print, layer: Layer, room: usize) -> io::Result<()>
     requires { room ≤ 480 }
 {
-    run_convolution(b" convolution=", Profile::Running, layer);
-    run_convolution(b" halved=", Profile::Halved, layer);
-    run_transposed(layer);
-    run_max_pool(layer);
-    run_write(layer, room);
+    run_convolution(rt, b" convolution=", Profile::Running, layer)?;
+    run_convolution(rt, b" halved=", Profile::Halved, layer)?;
+    run_transposed(rt, layer)?;
+    run_max_pool(rt, layer)?;
+    run_write(rt, layer, room)
 }
 
 // The record's case at a place; where the next case starts.
-fn run_record(s: &[u8], at: usize) -> usize {
+fn run_record(rt: &impl Print, s: &[u8], at: usize) -> io::Result<usize> {
     let sheet = after_line(s, at);
     let change = after_sheet(s, sheet);
     let room = after_line(s, change);
     let read = read_sheet(part_of(s, sheet, change));
     match read {
-        Read::Refused(_, _) => print(b" no sheet"),
+        Read::Refused(_, _) => print(rt, b" no sheet")?,
         Read::Sheet(layer) => run_layer(
+            rt,
             changed(layer, value_of(s, change, b"")),
             length_at(s, room, b"room=", 480),
-        ),
+        )?,
     }
-    print(b"\n");
-    after_line(s, room)
+    print(rt, b"\n")?;
+    Ok(after_line(s, room))
 }
 
 // Each element is its own place.
@@ -339,24 +338,32 @@ fn fill_places(tensor: &mut [f32]) {
     }
 }
 
-fn print_plane(plane: &[f32]) {
-    print(b" plane=");
+fn print_plane(rt: &impl Print, plane: &[f32]) -> io::Result<()> {
+    print(rt, b" plane=")?;
     let mut i = 0;
     while i < plane.len() {
         if 0 < i {
-            print(b",");
+            print(rt, b",")?;
         }
-        print_value(plane[i]);
+        print_value(rt, plane[i])?;
         i += 1;
     }
+    Ok(())
 }
 
-fn pick(sizes: Items, length: usize, image: u32, channel: u32, depth: u32)
+fn pick(
+    rt: &impl Print,
+    sizes: Items,
+    length: usize,
+    image: u32,
+    channel: u32,
+    depth: u32,
+) -> io::Result<()>
     requires { length ≤ 64 }
 {
     let mut tensor = [0.0f32; 64];
     fill_places(&mut tensor);
-    print_plane(pick_plane(
+    let plane = pick_plane(
         &tensor[..length],
         sizes.a,
         sizes.b,
@@ -366,11 +373,12 @@ fn pick(sizes: Items, length: usize, image: u32, channel: u32, depth: u32)
         image,
         channel,
         depth,
-    ));
+    );
+    print_plane(rt, plane)
 }
 
 // The plane's case at a place; where the next case starts.
-fn run_plane(s: &[u8], at: usize) -> usize {
+fn run_plane(rt: &impl Print, s: &[u8], at: usize) -> io::Result<usize> {
     let sizes = after_line(s, at);
     let length = after_line(s, sizes);
     let image = after_line(s, length);
@@ -378,47 +386,49 @@ fn run_plane(s: &[u8], at: usize) -> usize {
     let depth = after_line(s, channel);
     let list = read_numbers(value_of(s, sizes, b"sizes="), 5);
     match list {
-        Numbers::NoNumbers => print(b" no sizes"),
+        Numbers::NoNumbers => print(rt, b" no sizes")?,
         Numbers::These(items) => pick(
+            rt,
             items,
             length_at(s, length, b"length=", 64),
             number_or(value_of(s, image, b"image="), 0),
             number_or(value_of(s, channel, b"channel="), 0),
             number_or(value_of(s, depth, b"depth="), 0),
-        ),
+        )?,
     }
-    print(b"\n");
-    after_line(s, depth)
+    print(rt, b"\n")?;
+    Ok(after_line(s, depth))
 }
 
 // The key of the first line tells the kind of the case: the name under the other key is empty.
-fn run_case(s: &[u8], at: usize) -> usize {
+fn run_case(rt: &impl Print, s: &[u8], at: usize) -> io::Result<usize> {
     let plane = value_of(s, at, b"plane=");
     let record = value_of(s, at, b"record=");
-    print(plane);
-    print(record);
-    print(b":");
+    print(rt, plane)?;
+    print(rt, record)?;
+    print(rt, b":")?;
     if plane.len() == 0 {
-        return run_record(s, at);
+        return run_record(rt, s, at);
     }
-    run_plane(s, at)
+    run_plane(rt, s, at)
 }
 
 // At most 1,000 cases.
-fn run_all(s: &[u8]) {
+fn run_all(rt: &impl Print, s: &[u8]) -> io::Result<()> {
     let mut at = 0;
     let mut count = 0usize;
     while count < 1000 {
         if s.len() <= at {
-            return;
+            return Ok(());
         }
-        at = run_case(s, at);
+        at = run_case(rt, s, at)?;
         count += 1;
     }
+    Ok(())
 }
 
-fn main() {
-    let mut space = io::large_buffer();
-    let n = io::read_full(STDIN_FILENO, &mut space);
-    run_all(&space[..n]);
+fn main(rt: HostRuntime) -> io::Result<()> {
+    let mut space = Vec::new(rt.alloc());
+    rt.reader().take(65536).read_to_end(&mut space)?;
+    run_all(&rt, &space)
 }

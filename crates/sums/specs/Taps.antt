@@ -65,7 +65,7 @@ inside_only missing = missing
 inside_only (outside weight) = missing
 inside_only (at place weight) = at place weight
 
--- "whose tap lies inside the input": whether it does, by its place
+-- Whether a tap lies inside the input, by its place.
 unfoldable pub is_inside : Place → Bool
 is_inside missing = false
 is_inside (outside weight) = false
