@@ -1,6 +1,6 @@
 -- A convolution's call by its verdict, for either profile: what it owes besides its products is what every convolution's call does (`refused-call`, `filled-call`).
 use Prim.Native.Nat.{ℕ}
-use mathlib.Core.Path.{◌≡◌, refl, sym, ap, ◌∙◌}
+use mathlib.Core.Path.{◌≡◌, refl, sym, ap}
 use mathlib.Core.Bool.{false≢true}
 use mathlib.Core.List.{List}
 use lib.ListN.{length}
@@ -23,7 +23,6 @@ use Rattle.places.specs.Places.{place_of}
 use Rattle.places.proofs.Places.{in_range_lem}
 use Rattle.products.specs.Products.{products, products_in, products_of}
 use Rattle.products.specs.Axes.{counted_in}
-use Rattle.products.specs.declared.Counted.{Counted}
 use Rattle.products.specs.declared.Counted.TheVariants.{Run, Refuse}
 use Rattle.products.specs.declared.Convolved.{Convolved}
 

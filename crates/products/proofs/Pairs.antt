@@ -1,5 +1,5 @@
 -- Laws of pairs that pass a test: at most all of them, in either order, over a range of taps, and two axes as one: the pairs of both are those of each multiplied.
-use mathlib.Core.Path.{◌≡◌, refl, sym, ap, ap₂, ◌∙◌}
+use mathlib.Core.Path.{◌≡◌, refl, sym, ap, ◌∙◌}
 use mathlib.Core.Bool.{Bool, true, false, ◌&&◌}
 use Prim.Native.Nat.{ℕ, zero, suc, ◌+◌, ◌-◌, ◌*◌, ◌/◌, ◌%◌, ◌≤◌, ◌<◌, min}
 use native.Mathlib.Nat.{mul-one, zero-mul}
@@ -7,7 +7,7 @@ use native.Mathlib.Decide.{dec_lt, dec_le}
 use native.Mathlib.Omega.{arith}
 use Rattle.taps.specs.Taps.{Exactly}
 use Rattle.taps.proofs.Exact.{exactly_in, exactly_end, exactly_before, exactly_behind}
-use Rattle.products.specs.Pairs.{sum_below, one, count_below, pairs_below}
+use Rattle.products.specs.Pairs.{one, count_below, pairs_below}
 use Rattle.products.proofs.Sums.{sum_none, sum_more, sum_same, sum_most, sum_each, sum_swap, sum_product}
 
 one_most : (b : Bool) → one b ≤ 1

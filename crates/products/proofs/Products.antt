@@ -1,8 +1,8 @@
 -- The products of a shape: the pairs of an output and a tap are all pairs of an output plane and a channel, each with the pairs of a plane; and these are the pairs
 -- along z, y and x multiplied (`pairs-grid`, cited for planes, rows and depths).
-use mathlib.Core.Path.{◌≡◌, refl, sym, ap, ap₂, ◌∙◌}
-use mathlib.Core.Bool.{Bool, true, ◌&&◌}
-use Prim.Native.Nat.{ℕ, ◌*◌, ◌/◌, ◌%◌, ◌≤◌}
+use mathlib.Core.Path.{◌≡◌, refl, sym, ap₂, ◌∙◌}
+use mathlib.Core.Bool.{true}
+use Prim.Native.Nat.{ℕ, ◌*◌, ◌≤◌}
 use native.Mathlib.Nat.{le-mul_of_pos_right, mul_comm, mul-pos}
 use native.Mathlib.Omega.{arith}
 use Rattle.sizes.specs.declared.Span.{Span}

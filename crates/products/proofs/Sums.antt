@@ -1,7 +1,7 @@
 -- Laws of a sum of numbers, by induction on how many there are: terms that agree, two sums in either order, and a sum of products over a row-major number.
 use mathlib.Core.Path.{◌≡◌, refl, sym, ap, ap₂, ◌∙◌}
 use Prim.Native.Nat.{ℕ, zero, suc, ◌+◌, ◌*◌, ◌/◌, ◌%◌, ◌≤◌, ◌<◌}
-use native.Mathlib.Nat.{add-zero, add-suc, zero-mul, suc-mul, mul-zero, mul-add, add-mul, mul_comm}
+use native.Mathlib.Nat.{add-zero, add-suc, zero-mul, suc-mul, mul-zero, mul-add, add-mul}
 use native.Mathlib.Omega.{arith}
 use Rattle.layer.proofs.Places.{place_div, place_mod}
 use Rattle.products.specs.Pairs.{sum_below}
