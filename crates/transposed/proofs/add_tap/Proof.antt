@@ -1,4 +1,4 @@
--- The outputs that the tap reaches, by `tap-spread`; where it reaches none, `tap-away`.
+-- The outputs that the tap reaches, by `tap_spread`; where it reaches none, `tap_away`.
 use borrow.Author.Rules.{rules}
 use mathlib.Core.Path.{◌≡◌, refl, ap, ◌∙◌}
 use Prim.Native.Nat.{ℕ, ◌+◌, ◌-◌, ◌*◌, ◌≤◌}
