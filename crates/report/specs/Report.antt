@@ -1,7 +1,7 @@
 -- What document 01's program prints: "Program: judges the first 512 bytes of standard input as a sheet, makes checks 1 to 7 and prints `answer=0` and
 -- `output=1,2,2,2` (two lines, for the sheet above), with three axes `output=N,C,Z,Y,X`; else `answer=` with the number, and for 20 to 23 a second line
 -- `line=`"
-use Rattle.std.specs.Prelude.{ℕ, ◌+◌, List, ◌++◌, take}
+use Rattle.std.specs.Prelude.{ℕ, List, ◌++◌, take}
 use Rattle.text.specs.Texts.{text}
 use Rattle.text.specs.Numbers.{decimal}
 use Rattle.text.specs.Lists.{show_numbers}
