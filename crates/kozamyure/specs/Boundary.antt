@@ -1,6 +1,6 @@
 -- The C boundary. Each call takes the text of a sheet: a sheet that is not read is refused with its number, 20 to 23, and its line; else the answer is that of
 -- the function on the layer that the sheet says. "A tensor, place, number of bad elements or line that a number doesn't use is 0"
-use Rattle.std.specs.Prelude.{ℕ, ◌+◌, ◌*◌, List, ℤ, length, Float}
+use Rattle.std.specs.Prelude.{ℕ, ◌+◌, ◌*◌, List, ℤ, Float}
 use Rattle.layer.specs.declared.Op.{Op}
 use Rattle.layer.specs.declared.Op.TheVariants.{Convolution, Transposed, MaxPool}
 use Rattle.layer.specs.declared.Answer.{Answer}

@@ -11,7 +11,7 @@ use Rattle.call.specs.Checks.{sum_verdict}
 use Rattle.places.specs.Places.{place_of}
 use Rattle.products.specs.Pairs.{pairs_below}
 
--- The number of (output, tap) pairs whose tap lies inside the input: output number j of [N, G-as-O, OZ, OY, OX] and tap number t of [I, KZ, KY, KX], at the places
+-- The number of (output, tap) pairs whose tap lies inside the input: output number j of [N, G·O, OZ, OY, OX] and tap number t of [I, KZ, KY, KX], at the places
 -- of which the output is the sum
 unfoldable pub products : Shape → ℕ
 products s = pairs_below s.outputs s.taps (λ j t. is_inside (place_of s j t))

@@ -25,7 +25,7 @@ use Rattle.call.proofs.Planes.{line_flat}
 
 -- ---- numbers
 
--- output (n, group g, o, z, y, x) of [N, G-as-O, OZ, OY, OX]: its channel is g·O + o
+-- output (n, group g, o, z, y, x) of [N, G·O, OZ, OY, OX]: its channel is g·O + o
 abbrev pub output_number : Shape → ℕ → ℕ → ℕ → ℕ → ℕ → ℕ → ℕ
 output_number s n g o z y x = flat_place (s.g * s.o) s.z.out s.y.out s.x.out n (g * s.o + o) z y x
 
