@@ -162,6 +162,7 @@ fn read_digits(t: &[u8]) -> Number
 }
 
 // The number that a whole text spells.
+#[tactic(auto, using(crate::proofs::ReadLaws::zero_first))]
 pub fn read_number(t: &[u8]) -> Number
     ensures { number_read result ≡ number t.now }
 {

@@ -8,16 +8,22 @@ use native.Mathlib.Omega.{arith}
 use lib.Dec.{leb}
 use lib.ListN.{length, drop}
 use lib.Seq.{sets-eq}
-use borrow.Author.Tests.{leb-true, le-leb, lt-leb}
+use borrow.Author.Tests.{eq-eqb, leb-true, le-leb, lt-leb}
 use Rattle.print.specs.Put.{Put, place_after}
+use Rattle.print.proofs.PutLaws.{put_none}
 use Rattle.layer.specs.declared.Layer.{Layer}
-use Rattle.fields.specs.Sheet.{show_sheet}
+use Rattle.fields.specs.Sheet.{version_line, show_sheet}
 use Rattle.faults.specs.Faults.{faults, fault_of}
 use Rattle.writer.specs.Writer.{written, not_written, answer, write_sheet, leave, buffer_after}
 use Rattle.faults.specs.declared.Fault.{Fault}
 use Rattle.faults.specs.declared.Fault.TheVariants.{Fine, At}
 use Rattle.writer.specs.declared.Written.{Written}
 use Rattle.faults.proofs.FaultLaws.{Found, fault_found}
+
+-- the default version's line is not there
+pub no_version_line : (l : List ℕ) (at version : ℕ) → at ≤ 18446744073709551615 → length l < 9223372036854775808 → version ≡ 8
+    → Put l at (version_line version) at l
+no_version_line l at version a h e = rw (eq-eqb version 8 e) (put_none l at a h)
 
 -- a call's answer w, and the buffer after it
 abbrev pub Result : Layer → List ℕ → Written → List ℕ → Type 0

@@ -37,6 +37,7 @@ fn put_axes(buf: &mut [u8], at: usize, key: &[u8], axes: u32, z: u32, y: u32, x:
 }
 
 // The version line, which a sheet of the default version does not have.
+#[tactic(auto, using(crate::proofs::WriteLaws::no_version_line))]
 fn put_version(buf: &mut [u8], at: usize, version: u32) -> usize
     ensures { Put buf.old at (version_line version) result buf.new }
 {
