@@ -2,14 +2,13 @@
 #![tactic(auto)]
 
 use std::io;
-use std::io::Read;
 
 fn main(rt: HostRuntime) -> io::Result<()> {
-    let mut input = Vec::new(rt.alloc());
     // More than is judged.
-    rt.reader().take(1024).read_to_end(&mut input)?;
+    let mut input = [0u8; 1024];
+    let n = stdin::read_full(&mut rt.reader(), &mut input)?;
     // No report is longer.
     let mut text = [0u8; 80];
-    let end = report::report(&input, &mut text);
+    let end = report::report(&input[..n], &mut text);
     rt.write_all(&text[..end])
 }

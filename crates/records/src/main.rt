@@ -15,7 +15,6 @@ use lines::Read;
 use pooling::max_pool;
 use sheet::{read_sheet, write_sheet};
 use std::io;
-use std::io::Read as _;
 use sums::Profile;
 use tensor::pick_plane;
 use text::{Items, Number, Numbers, is_text, part_of, read_number, read_numbers, starts};
@@ -428,7 +427,7 @@ fn run_all(rt: &impl Print, s: &[u8]) -> io::Result<()> {
 }
 
 fn main(rt: HostRuntime) -> io::Result<()> {
-    let mut space = Vec::new(rt.alloc());
-    rt.reader().take(65536).read_to_end(&mut space)?;
-    run_all(&rt, &space)
+    let mut space = [0u8; 65536];
+    let n = stdin::read_full(&mut rt.reader(), &mut space)?;
+    run_all(&rt, &space[..n])
 }
