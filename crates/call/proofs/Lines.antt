@@ -28,7 +28,7 @@ output_room s h n e l = line_room (s.n * s.channels * out_rows s) (n ∙ h.outpu
 
 -- the kernel has a first weight, and it is finite
 pub kernel_pos : (s : Shape) (input kernel : List Float) → Fitting s input kernel → 0 < length kernel
-kernel_pos s input kernel h = omega (arith, weights_pos s h.shape, h.kernel_length_lem)
+kernel_pos s input kernel h = omega (arith, weights_pos s h.shape, h.kernel_length)
 
 first_finite : (s : Shape) (input kernel : List Float) → Fitting s input kernel → T (finite (read kernel 0))
 first_finite s input kernel h = element_finite (read kernel 0) (h.kernel_good 0 (kernel_pos s input kernel h))

@@ -8,6 +8,6 @@ use Rattle.sums.specs.Finite.{AllOk}
 pub record Fitting (s : Shape) (input kernel : List Float) : Type 0 where
   pub shape : Grouped s
   pub input_length : length input ≡ s.inputs
-  pub kernel_length_lem : length kernel ≡ s.weights
+  pub kernel_length : length kernel ≡ s.weights
   pub input_good : AllOk input
   pub kernel_good : AllOk kernel

@@ -25,7 +25,7 @@ module _ (s : Shape) (input kernel : List Float) (h : Fitting s input kernel) wh
   inside_output : {j : ℕ} → j < s.outputs → sum_from plus_zero (inside_taps s input kernel j) s.taps ≡ output_of Running (place_of s) s.taps input kernel j
   inside_output {j} l =
       sym (output_running (place_of s) s.taps input kernel j
-      ∙ sum_inside input kernel h.kernel_good (place_of s j) s.taps (λ t q. rw (h.input_length, h.kernel_length_lem) (in_range_lem s h.shape j t l q)))
+      ∙ sum_inside input kernel h.kernel_good (place_of s j) s.taps (λ t q. rw (h.input_length, h.kernel_length) (in_range_lem s h.shape j t l q)))
 
   -- a line of them, which start at +0
   pub line_is : (line : ℕ) {number : ℕ} {l m : List Float} → number ≡ line → line * s.x.out + s.x.out ≤ s.outputs

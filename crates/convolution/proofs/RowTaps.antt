@@ -32,7 +32,7 @@ module _ (s : Shape) (input kernel : List Float) (h : Fitting s input kernel) (f
       record {
         limits = h.shape.sound.x;
         row_is = ap length er ∙ part_length input _ s.x.input (values_bounds s f r h.shape h.input_length g i).end;
-        weights_are = ap length ew ∙ part_length kernel _ s.x.kernel (weights_bounds s f r h.shape h.kernel_length_lem g i).end;
+        weights_are = ap length ew ∙ part_length kernel _ s.x.kernel (weights_bounds s f r h.shape h.kernel_length g i).end;
       }
 
   -- one tap

@@ -1,5 +1,5 @@
 -- A kernel row over a row of the input, of one axis: for outputs that have the same taps inside the input, and for one tap and the outputs that it reaches. Both run
--- over the pairs of output and tap that lie inside, and `spanTaps` is none for the others.
+-- over the pairs of output and tap that lie inside, and `span_taps` is none for the others.
 use mathlib.Core.Path.{◌≡◌, sym, ap, ap₂, ◌∙◌}
 use mathlib.Core.List.{List, ◌++◌}
 use mathlib.Core.Bool.{true, false}

@@ -110,7 +110,7 @@ module _ (axes : ℕ) (h : axes_in axes ≡ true) where
     kernel_ok_lem Transposed g o i hg ho hi = more_ok _ _ _ hg (omega (arith, ho, hi)) (omega (arith, ho, hi))
     kernel_ok_lem MaxPool g o i hg ho hi = axis_ok_lem
 
-  -- ---- the lists of a layer that was made of lists, as `list-again`, with other numbers before those of the axes
+  -- ---- the lists of a layer that was made of lists, as `list_again`, with other numbers before those of the axes
   pub input_again : (unused : ℕ) (items : Items) → let p = on_axes axes unused (later_items (later_items items)) in
       input_list axes items.a items.b p.z p.y p.x ≡ keep (input_numbers axes) items
   input_again unused items = by_axes

@@ -1,5 +1,5 @@
--- The taps of an output by its position along each axis: those that the code finds are those of the output's number (`taps-are-inside`), and their places lie in the
--- tensors (`tap-bounds`).
+-- The taps of an output by its position along each axis: those that the code finds are those of the output's number (`taps_are_inside`), and their places lie in the
+-- tensors (`tap_bounds`).
 use mathlib.Core.Path.{◌≡◌, refl, sym, ap, ap₂, ◌∙◌}
 use mathlib.Core.List.{List}
 use Prim.Native.Nat.{ℕ, ◌+◌, ◌*◌, ◌/◌, ◌%◌, ◌≤◌, ◌<◌}
@@ -138,9 +138,9 @@ module _ (s : Shape) (input kernel : List Float) (h : Fitting s input kernel) wh
         inputs_in =
             le_of_eq (ap (λ (n : ℕ). n * s.x.input) (mul_assoc (s.n * s.c) s.z.input s.y.input ∙ ap (λ (n : ℕ). s.n * s.c * n) (sym (input_rows_are s)))
             ∙ sym (h.input_length ∙ a.inputs_is));
-        weights_in = omega (arith, b.weight, h.kernel_length_lem);
+        weights_in = omega (arith, b.weight, h.kernel_length);
         inputs_max = omega (arith, h.input_length, a.inputs_max);
-        weights_max = omega (arith, h.kernel_length_lem, h.shape.weights_max);
+        weights_max = omega (arith, h.kernel_length, h.shape.weights_max);
       }
 
   -- a tap's number by its channel, depth, row and column

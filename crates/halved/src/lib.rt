@@ -84,7 +84,7 @@ fn single(input: &[f32], kernel: &[f32], o: Output, t: usize) -> f32
 
 // The sum of `count` taps from number `first` on: of a single tap, or of the two parts of the run, the first having the larger half.
 fn halved_sum(input: &[f32], kernel: &[f32], o: Output, first: usize, count: usize) -> f32
-    requires le_count { 1 ≤ count }
+    requires count_1 { 1 ≤ count }
     requires held { Held o (first + count) (length input.now) (length kernel.now) }
     ensures { result ≡ halved (output_taps input.now kernel.now o) first count }
 {

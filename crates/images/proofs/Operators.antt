@@ -33,14 +33,14 @@ use Rattle.images.proofs.Parts.{same_elements}
 use Rattle.images.proofs.Sums.{same_outputs, image_alone}
 use Rattle.images.proofs.Places.{convolution_stays, transposed_stays}
 
--- ---- two calls; max pooling has `same-pooling`
+-- ---- two calls; max pooling has `same_pooling`
 pub same_convolution : (profile : Profile) → SameOutputs Convolution profile place_of
 same_convolution profile = same_outputs Convolution refl profile place_of convolution.in_range_lem convolution_stays
 
 pub same_transposed : SameOutputs Transposed Running transposedPlaceOf
 same_transposed = same_outputs Transposed refl Running transposedPlaceOf transposed.in_range_lem transposed_stays
 
--- ---- an image alone; max pooling has `pooling-alone`
+-- ---- an image alone; max pooling has `pooling_alone`
 pub convolution_alone : (profile : Profile) → OutputsAlone Convolution profile place_of
 convolution_alone profile = image_alone Convolution refl profile place_of convolution.in_range_lem convolution_stays
 

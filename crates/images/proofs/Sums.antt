@@ -102,7 +102,7 @@ module _ (op : Op) (pool : is_pool op ≡ false) (profile : Profile) (place : Sh
     run_alone : sum_verdict op (one_image l) image kernel (length own) ≡ Run t
     run_alone =
         own_run op l input facts n h _ _
-        (lengths_three _ _ _ (own_input op l input facts n h) (fits.0.kernel_length_lem ∙ sym (ap (λ (b : Bool). cond b t.outputs t.weights) pool)) (own_output op l input facts n h own before fits.1 k))
+        (lengths_three _ _ _ (own_input op l input facts n h) (fits.0.kernel_length ∙ sym (ap (λ (b : Bool). cond b t.outputs t.weights) pool)) (own_output op l input facts n h own before fits.1 k))
         (run_taken _ _ _ s run).good.1
 
     alone : SummedAlone op profile place l input kernel before own n

@@ -117,7 +117,7 @@ module _ (l : Layer) (input values : List Float) (indices : List ℤ) (n : ℕ) 
       ∙ best_moved l.n (input_size s) n input facts.inputs h (window_places t q)
       (subst (λ (m : ℕ). All (λ p. p < m) (window_places t q)) facts.one_inputs (window_within t (pooled (one_image l) t facts.one_accepted) q (rw facts.one_outputs small))) Empty
 
-  -- all of them, by the image alone: `of` is `value_of`, or `indexOf` with the modulus
+  -- all of them, by the image alone: `of` is `value_of`, or `index_of` with the modulus
   leaves_alone : {A : Type 0} (of : Shape → Window → A) (before : List A)
       → image_of l.n n (leaves (call_verdict l input values indices) (λ s j. of s (window_of input s j)) before)
       ≡ tabulate (λ q. of s (moved_window more (window_of image t q))) (output_size s)

@@ -9,7 +9,7 @@ use Rattle.readings.specs.Layers.{layer_with}
 abbrev pub image_of : {A : Type 0} → ℕ → ℕ → List A → List A
 image_of images n tensor = let size = length tensor / images in take size (drop (n * size) tensor)
 
--- Two tensors [N, C, Z, Y, X] have the same image n, by document 01's indices: element (n, c, z, y, x) of the one is that of the other. `same-elements` says that this
+-- Two tensors [N, C, Z, Y, X] have the same image n, by document 01's indices: element (n, c, z, y, x) of the one is that of the other. `same_elements` says that this
 -- is what two equal images are.
 abbrev pub SameElements : {A : Type 0} → A → ℕ → ℕ → ℕ → ℕ → ℕ → List A → List A → Type 0
 SameElements none C Z Y X n a b =

@@ -64,7 +64,7 @@ fn with_row(s: Shape, input: &[f32], first: usize, p: u32, q: u32, k: u32, w: Wi
 
 // The window of a plane at output row p and column q.
 fn scan_window(s: Shape, input: &[f32], first: usize, p: u32, q: u32) -> Window
-    requires le_input { (1 ≤ s.x.input) × (kernel_rows s ≤ 4096) }
+    requires sizes { (1 ≤ s.x.input) × (kernel_rows s ≤ 4096) }
     requires input_in_bounds { (first + input_rows s) * s.x.input ≤ length input.now }
     ensures { result ≡ plane_window input.now first s p q Window.Empty }
 {

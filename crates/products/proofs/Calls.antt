@@ -1,4 +1,4 @@
--- A convolution's call by its verdict, for either profile: what it owes besides its products is what every convolution's call does (`refused-call`, `filled-call`).
+-- A convolution's call by its verdict, for either profile: what it owes besides its products is what every convolution's call does (`refused_call`, `filled_call`).
 use Prim.Native.Nat.{ℕ}
 use mathlib.Core.Path.{◌≡◌, refl, sym, ap}
 use mathlib.Core.Bool.{false≢true}

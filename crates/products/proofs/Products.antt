@@ -1,5 +1,5 @@
 -- The products of a shape: the pairs of an output and a tap are all pairs of an output plane and a channel, each with the pairs of a plane; and these are the pairs
--- along z, y and x multiplied (`pairs-grid`, cited for planes, rows and depths).
+-- along z, y and x multiplied (`pairs_grid`, cited for planes, rows and depths).
 use mathlib.Core.Path.{◌≡◌, refl, sym, ap₂, ◌∙◌}
 use mathlib.Core.Bool.{true}
 use Prim.Native.Nat.{ℕ, ◌*◌, ◌≤◌}

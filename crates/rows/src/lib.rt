@@ -87,8 +87,8 @@ fn add_some(
     dilation: usize,
     k: usize,
 ) -> usize
-    requires k_in_bounds { (k < length weights.now) × (length sums.old ≤ held (length sums.old) (length values.now) (length weights.now) stride dilation) }
-    requires in_bounds { 1 ≤ length sums.old }
+    requires held { (k < length weights.now) × (length sums.old ≤ held (length sums.old) (length values.now) (length weights.now) stride dilation) }
+    requires sums_1 { 1 ≤ length sums.old }
     ensures { (1 ≤ result) × ((k + result ≤ length weights.now) × Summed (λ x j. across values.now weights.now stride dilation x (k + j)) result (length sums.old) sums.old sums.new) }
 {
     let from = k * dilation;
@@ -192,7 +192,7 @@ pub fn start(sums: &mut [f32], weight: f32)
 // The sums at 0, stride, 2 * stride, .. take the values one after another, with one weight.
 fn add_values(sums: &mut [f32], values: &[f32], stride: usize, weight: f32)
     requires by_index { (m : ℕ) → m < length values.now → m * stride < length sums.old }
-    requires le_stride { 1 ≤ stride }
+    requires stride_1 { 1 ≤ stride }
     ensures { Summed (spread values.now weight stride) 1 (length sums.old) sums.old sums.new }
 {
     let mut m = 0;

@@ -227,8 +227,8 @@ fn windows_ok(op: Op, s: Shape) -> bool
 }
 
 fn shape_of(l: Layer, z: Span, y: Span, x: Span, channels: usize, outputs: usize) -> Shape
-    requires l_bound { (tap_count l ≤ 16777216) × (input_count l ≤ 16777216) × (kernel_count l ≤ 16777216) }
-    requires l_bound_2 { modulus_of l ≤ 16777216 }
+    requires counts { (tap_count l ≤ 16777216) × (input_count l ≤ 16777216) × (kernel_count l ≤ 16777216) }
+    requires modulus { modulus_of l ≤ 16777216 }
     ensures { result ≡ shape_with l z y x channels outputs }
 {
     let az = l.z;

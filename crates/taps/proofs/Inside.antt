@@ -14,7 +14,7 @@ use Rattle.taps.specs.Taps.{inside, tap_inside, reached, Exactly, steps_to}
 use Rattle.sizes.proofs.Division.{ceil_le, lt_ceil}
 use Rattle.taps.proofs.Any.{any_none, any_some}
 
--- `stepsTo` by cases
+-- `steps_to` by cases
 steps_none : steps_to 0 0 ≡ 0
 unfolding steps_to
 steps_none = refl
@@ -27,7 +27,7 @@ steps_ceil : (d s : ℕ) → steps_to d (suc s) ≡ ceil_div d (suc s)
 unfolding steps_to
 steps_ceil d s = rw (ne_eqb (suc s) 0 (λ e. omega arith))
 
--- a number of steps, below the number that stands for none, covers the distance exactly if it is at least `stepsTo`
+-- a number of steps, below the number that stands for none, covers the distance exactly if it is at least `steps_to`
 pub steps_le : (d s k : ℕ) → k < 4294967295 → (steps_to d s ≤ k) ↔ (d ≤ k * s)
 steps_le zero zero k h = (λ p. omega arith, λ p. omega (arith, steps_none))
 steps_le (suc d) zero k h = (λ p. absurd (omega (arith, steps_never d)), λ p. absurd (omega (arith, mul-zero k)))

@@ -45,7 +45,7 @@ fn add_tap(
     stride: usize,
     k: usize,
 )
-    requires le_stride { (1 ≤ stride) × ((stride ≤ 16) × ((dilation ≤ 16) × (begin ≤ 1024))) }
+    requires limits { (1 ≤ stride) × ((stride ≤ 16) × ((dilation ≤ 16) × (begin ≤ 1024))) }
     requires weights_len_bound { (length weights.now ≤ 64) × (k < length weights.now) }
     ensures { Summed (λ x j. row_tap row.now weights.now (x + begin) dilation stride (k + j)) 1 (length out.old) out.old out.new }
 {
@@ -67,7 +67,7 @@ fn add_taps(
     dilation: usize,
     stride: usize,
 )
-    requires le_stride { (1 ≤ stride) × ((stride ≤ 16) × ((dilation ≤ 16) × (begin ≤ 1024))) }
+    requires limits { (1 ≤ stride) × ((stride ≤ 16) × ((dilation ≤ 16) × (begin ≤ 1024))) }
     requires weights_len_bound { length weights.now ≤ 64 }
     ensures { Summed (λ x k. row_tap row.now weights.now (x + begin) dilation stride k) (length weights.now) (length out.old) out.old out.new }
 {
@@ -117,7 +117,7 @@ fn add_row(
 )
     requires fitting { Fitting s input.now kernel.now }
     requires within { Within s f }
-    requires i_lt_i { (i < s.i) × ((k < kernel_rows s) × (length out.old ≡ s.x.out)) }
+    requires row { (i < s.i) × ((k < kernel_rows s) × (length out.old ≡ s.x.out)) }
     ensures { Summed (λ x j. tap_at input.now kernel.now (place_from s f (x + s.x.begin) ((i * kernel_rows s + k) * s.x.kernel + j))) s.x.kernel s.x.out out.old out.new }
 {
     let tap = row_tap(Direction::Backward, s, f.row, k as u32);

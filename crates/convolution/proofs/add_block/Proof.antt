@@ -1,4 +1,4 @@
--- What `add_taps` adds are these taps (`block-summed`).
+-- What `add_taps` adds are these taps (`block_summed`).
 use borrow.Author.Rules.{rules}
 use Prim.Native.Nat.{◌+◌, ◌≤◌, ◌<◌}
 use native.Mathlib.Omega.{arith}

@@ -1,4 +1,4 @@
--- Outputs that are alike have a block of taps (`alike-summed`); a whole row goes tap by tap.
+-- Outputs that are alike have a block of taps (`alike_summed`); a whole row goes tap by tap.
 use mathlib.Core.Path.{sym, ap, ◌∙◌}
 use Prim.Native.Nat.{ℕ, ◌+◌}
 use native.Mathlib.Nat.{zero-add}

@@ -1,4 +1,4 @@
--- The outputs that the tap reaches are one part of the row (`tap-summed`).
+-- The outputs that the tap reaches are one part of the row (`tap_summed`).
 use borrow.Author.Rules.{rules}
 use Prim.Native.Nat.{◌+◌, ◌≤◌, ◌<◌}
 use native.Mathlib.Omega.{arith}

@@ -1,4 +1,4 @@
--- The sums start at +0 and take all their taps inside the input; they are then the outputs (`line-is`).
+-- The sums start at +0 and take all their taps inside the input; they are then the outputs (`line_is`).
 use borrow.Author.Rules.{rules}
 use mathlib.Core.Path.{◌≡◌, ap, ◌∙◌}
 use Prim.Native.Nat.{◌*◌, ◌<◌}

@@ -1,4 +1,4 @@
--- The numbers fit by `line-bounds`; the ranges are those of `taps_inside`.
+-- The numbers fit by `line_bounds`; the ranges are those of `taps_inside`.
 use borrow.Author.Rules.{rules}
 use mathlib.Core.Path.{refl}
 use Prim.Native.Nat.{◌%◌}

@@ -1,4 +1,4 @@
--- The numbers fit by `values-bounds`: the row lies in the input.
+-- The numbers fit by `values_bounds`: the row lies in the input.
 use borrow.Author.Rules.{rules}
 use mathlib.Core.Path.{refl}
 use native.Mathlib.Omega.{arith}

@@ -1,4 +1,4 @@
--- The row lies in the input (`values-bounds`).
+-- The row lies in the input (`values_bounds`).
 use borrow.Author.Rules.{rules}
 use Prim.Native.Nat.{◌+◌, ◌*◌, ◌≤◌}
 use native.Mathlib.Nat.{add-sub_cancel_left}

@@ -1,4 +1,4 @@
--- The part lies in the kernel by `weights-bounds`.
+-- The part lies in the kernel by `weights_bounds`.
 use borrow.Author.Rules.{rules}
 use Prim.Native.Nat.{◌+◌, ◌*◌, ◌≤◌}
 use native.Mathlib.Nat.{add-sub_cancel_left}

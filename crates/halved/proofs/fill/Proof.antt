@@ -1,4 +1,4 @@
--- Invariant: the first j outputs are written. One turn is the halved sum of one output more (`halved-output`).
+-- Invariant: the first j outputs are written. One turn is the halved sum of one output more (`halved_output`).
 use mathlib.Core.Path.{ap, ◌∙◌}
 use Prim.Native.Nat.{◌-◌, ◌≤◌, ◌<◌}
 use native.Mathlib.Omega.{arith}

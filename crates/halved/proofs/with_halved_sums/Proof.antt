@@ -1,4 +1,4 @@
--- By the verdict, as every convolution's call: `refused-call` and `filled-call` are the two cases.
+-- By the verdict, as every convolution's call: `refused_call` and `filled_call` are the two cases.
 use borrow.Author.Rules.{rules}
 use mathlib.Core.Path.{refl, sym, ◌∙◌}
 use Rattle.layer.specs.declared.Op.TheVariants.{Convolution}

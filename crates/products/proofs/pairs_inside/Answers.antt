@@ -1,4 +1,4 @@
--- The pairs of the turned axis are those of the axis (`axis-turned`).
+-- The pairs of the turned axis are those of the axis (`axis_turned`).
 use mathlib.Core.Path.{ap, ◌∙◌}
 use Rattle.products.specs.Axes.{pairs_inside}
 use Rattle.products.proofs.Products.{axis_turned}

@@ -1,4 +1,4 @@
--- The products by the axes (`by-axes`); what is multiplied is within `bounds`.
+-- The products by the axes (`by_axes`); what is multiplied is within `bounds`.
 use native.Mathlib.Omega.{arith}
 use Rattle.products.proofs.Products.{by_axes, bounds}
 use Rattle.products.proofs.products_over.Goals as goal

@@ -15,7 +15,7 @@ loop-k-init c = (omega arith, summed_start _ _ _)
 
 pub add_some-k-requires : goal.add_some-k-requires
 add_some-k-requires c =
-    record { k_in_bounds = (c.loop-k-test.true, rw c.loop-k.invariant.1.kept c.requires); in_bounds = omega (arith, c.loop-k.invariant.1.kept, c.if-sums-eq0.false) }
+    record { held = (c.loop-k-test.true, rw c.loop-k.invariant.1.kept c.requires); sums_1 = omega (arith, c.loop-k.invariant.1.kept, c.if-sums-eq0.false) }
 
 pub loop-k-preserved : goal.loop-k-preserved
 loop-k-preserved c =

@@ -1,4 +1,4 @@
--- The values that find a sum are the first ones, by `spread-part`.
+-- The values that find a sum are the first ones, by `spread_part`.
 use borrow.Author.Rules.{rules}
 use mathlib.Core.Path.{◌≡◌, ap, ◌∙◌}
 use Prim.Native.Nat.{◌≤◌, min}

@@ -66,7 +66,7 @@ returns-then-not-elements_ok c = let s = start c.before.before in rw (after_fitt
 pub shape_of-s-requires : goal.shape_of-s-requires
 shape_of-s-requires c =
     let k = counted c.args.op c.args.l c.requires.passed in
-    record { l_bound = (k.taps_max, k.input_max, k.kernel_max); l_bound_2 = (modulus_limits c.args.op c.args.l _ _ _ c.requires).1 }
+    record { counts = (k.taps_max, k.input_max, k.kernel_max); modulus = (modulus_limits c.args.op c.args.l _ _ _ c.requires).1 }
 
 pub windows_ok-requires : goal.windows_ok-requires
 windows_ok-requires c =

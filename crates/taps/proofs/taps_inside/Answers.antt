@@ -1,4 +1,4 @@
--- `taps_inside` meets its contract by the law `taps-exact`. Positions of 32 bits and steps of 16 keep every product below 2^64.
+-- `taps_inside` meets its contract by the law `taps_exact`. Positions of 32 bits and steps of 16 keep every product below 2^64.
 use native.Mathlib.Omega.{arith}
 use Rattle.sizes.proofs.Division.{times_le}
 use Rattle.taps.proofs.Inside.{taps_exact}

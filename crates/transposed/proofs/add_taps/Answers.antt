@@ -10,7 +10,7 @@ pub loop-k-init : goal.loop-k-init
 loop-k-init c = (omega arith, summed_start _ _ _)
 
 pub add_tap-requires : goal.add_tap-requires
-add_tap-requires c = record { le_stride = search rules; weights_len_bound = (search rules, c.loop-k-test.true) }
+add_tap-requires c = record { limits = search rules; weights_len_bound = (search rules, c.loop-k-test.true) }
 
 pub loop-k-preserved : goal.loop-k-preserved
 loop-k-preserved c =
