@@ -5,7 +5,7 @@ use native.Mathlib.Omega.{arith}
 use mathlib.Core.Path.{◌≡◌, refl, sym, ap, ap₂, ◌∙◌, subst, fun_ext}
 use mathlib.Core.Bool.{Bool, true, false, cond, ◌&&◌, false≢true}
 use lib.Dec.{leb, ltb, eqb}
-use borrow.Author.Tests.{ltb-true, ltb-false, leb-true, leb-false, eqb-true, lt-ltb, le-leb, eq-eqb}
+use borrow.Author.Tests.{ltb-true, ltb-false, leb-true, leb-false, eqb-true, lt-ltb, le-leb, eq-eqb, ne_eqb}
 use Rattle.layer.proofs.Tests.{and_both, and_of, both_ways}
 use Rattle.layer.proofs.Places.{place_div, place_mod, place_within}
 use Rattle.sizes.specs.declared.Span.{Span}
@@ -14,7 +14,16 @@ use Rattle.taps.specs.declared.Direction.TheVariants.{Forward, Backward}
 use Rattle.taps.specs.declared.Tap.{Tap}
 use Rattle.taps.specs.declared.Tap.TheVariants.{Outside, At}
 use Rattle.taps.specs.Taps.{tap_position, tap_inside}
-use Rattle.taps.specs.Joins.{joins, forward, position_by, reach_of, backward, tap_on, both, is_at, Finds, Below}
+use Rattle.taps.specs.Joins.{joins, forward, position_in, position_by, reach_of, backward, tap_on, both, is_at, Finds, Below}
+
+-- ---- by a step: a distance that is a multiple of it, or is not
+pub multiple : (size stride distance : ℕ) → distance % stride ≡ 0 → position_by size stride distance ≡ position_in size (distance / stride)
+unfolding position_by
+multiple size stride distance e = simp (eq-eqb _ _ e)
+
+pub no_multiple : (size stride distance : ℕ) → (distance % stride ≡ 0 → ⊥) → position_by size stride distance ≡ Outside
+unfolding position_by
+no_multiple size stride distance n = simp (ne_eqb _ _ n)
 
 -- ---- a tap that finds
 finds_same : (n : ℕ) (f g : ℕ → Bool) (t : Tap) → ((q : ℕ) → f q ≡ g q) → Finds n f t → Finds n g t

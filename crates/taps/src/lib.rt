@@ -69,6 +69,7 @@ pub fn forward(s: Span, p: u32, k: u32) -> Tap
 }
 
 // The position that so many strides come to, if they come to one. A stride of 1 needs no division.
+#[tactic(auto, using(crate::proofs::Joins::multiple, crate::proofs::Joins::no_multiple))]
 fn position_by(distance: usize, stride: usize, size: u32) -> Tap
     ensures { result ≡ position_by size stride distance }
 {
@@ -183,6 +184,7 @@ fn end_before(s: Span, p: u32, limit: usize) -> usize
 
 // The end of the positions from p on that have the same taps inside the input, as far as this is told at once: where every tap of p lies before the input,
 // inside it or behind it.
+#[tactic(auto, using(crate::proofs::Exact::same_one))]
 fn same_until(s: Span, p: u32) -> usize
     ensures { SameTaps s p result }
 {

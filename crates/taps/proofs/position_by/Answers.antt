@@ -1,7 +1,7 @@
 -- Each return is one case of the definition: a stride of 1, of 0, and any other.
 use native.Mathlib.Nat.{mod-one, div-one, mod-zero}
 use mathlib.Core.Path.{◌≡◌}
-use borrow.Author.Tests.{eq-eqb, ne_eqb}
+use borrow.Author.Tests.{ne_eqb}
 use Rattle.taps.specs.Joins.{position_by}
 use Rattle.taps.proofs.position_by.Goals as goal
 
@@ -24,11 +24,3 @@ unfolding position_by
 returns-then-stride-eq0 c =
     let e : c.args.stride ≡ 0 = c.if-stride-eq0.true in
     rw e (simp (mod-zero, ne_eqb _ _ c.if-distance-eq0.false))
-
-pub returns-then-distance-stride-ne0 : goal.returns-then-distance-stride-ne0
-unfolding position_by
-returns-then-distance-stride-ne0 c = simp (ne_eqb _ _ c.if-distance-stride-ne0.true)
-
-pub returns : goal.returns
-unfolding position_by
-returns c = simp (eq-eqb _ _ c.if-distance-stride-ne0.false, c.position-2.ensures)
