@@ -1,7 +1,8 @@
 -- Up to position p, the pairs of the positions before it. A position has at most as many as there are taps, so all of them are below 2^64.
 use native.Mathlib.Numerals.{add-one}
 use native.Mathlib.Omega.{arith}
-use mathlib.Core.Path.{◌≡◌, sym}
+use Prim.Native.Nat.{◌+◌}
+use mathlib.Core.Path.{◌≡◌, sym, ap₂, ◌∙◌}
 use Rattle.sizes.proofs.Division.{times_le}
 use Rattle.taps.specs.Taps.{tap_inside}
 use Rattle.products.specs.Axes.{pairs_inside}
@@ -30,7 +31,7 @@ pub loop-p-preserved : goal.loop-p-preserved
 loop-p-preserved c =
     let l = c.loop-p in (
       omega arith,
-      rw (add-one l.p) (rw (sym (exactly_count c.taps_inside-t.ensures), l.invariant.1) (sym (sum_more l.p _))),
+      rw (add-one l.p) (ap₂ (λ a b. a + b) l.invariant.1 (sym (exactly_count c.taps_inside-t.ensures)) ∙ sym (sum_more l.p _)),
     )
 
 pub returns : goal.returns
