@@ -1,3 +1,4 @@
+pub mod Refusals
 pub mod Kinds
 pub mod Limits
 pub mod Axes

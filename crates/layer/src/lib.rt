@@ -8,15 +8,16 @@ ghost use Rattle.layer.specs.Versions.{version_in, lacks_op, lacks_rounding};
 ghost use Rattle.layer.specs.Limits.{within, images_ok, channels_ok, size_ok, kernel_ok, step_ok, pad_ok, output_padding_ok, taps_ok, elements_ok, axis_ok};
 ghost use Rattle.layer.specs.Defaults.{default_axis, default_layer, is_default_rounding, is_default_axis_attribute};
 ghost use Rattle.layer.specs.Answers.{numbered, bad_element};
+ghost use Rattle.layer.specs.Refusals.{refusal_number, sheet_number};
 
-#[derive(Clone, Copy)]
+#[derive(Clone, Copy, PartialEq, Eq)]
 pub enum Op {
     Convolution,
     Transposed,
     MaxPool,
 }
 
-#[derive(Clone, Copy)]
+#[derive(Clone, Copy, PartialEq, Eq)]
 pub enum AutoPad {
     Explicit,
     SameUpper,
@@ -24,7 +25,7 @@ pub enum AutoPad {
     Valid,
 }
 
-#[derive(Clone, Copy)]
+#[derive(Clone, Copy, PartialEq, Eq)]
 pub enum Rounding {
     Floor,
     Ceil,
@@ -61,6 +62,42 @@ pub struct Layer {
     pub auto_pad: AutoPad,
     pub rounding: Rounding,
     pub axis: i32,
+}
+
+// Why checks 1 to 9 refuse a call, in the order of document 01's table. A bad element is told with its tensor (0 input, 1 kernel), the place of the first one there
+// and how many there are.
+#[derive(Clone, Copy, PartialEq, Eq)]
+pub enum Refusal {
+    Dimension,
+    Attribute,
+    Groups,
+    ElementCount,
+    Size,
+    OutputCount,
+    EmptyWindow,
+    SliceLength,
+    BadElement {
+        tensor: u32,
+        place: usize,
+        bad: usize,
+    },
+}
+
+// Why a sheet is not read or not written, in the order of document 01's numbers 20 to 24.
+#[derive(Clone, Copy, PartialEq, Eq)]
+pub enum SheetError {
+    Key,
+    Number,
+    Word,
+    Unused,
+    Room,
+}
+
+// The refusal of a sheet: what is wrong, and the number of the line; 0 where no line is to blame.
+#[derive(Clone, Copy, PartialEq, Eq)]
+pub struct SheetRefusal {
+    pub error: SheetError,
+    pub line: u32,
 }
 
 // What an operator comes back with: a number, and for number 9 the tensor, the place of its first bad element and the number of its bad elements. What a number
@@ -160,111 +197,78 @@ impl Answer {
     }
 }
 
+impl Refusal {
+    // Its number in document 01's table.
+    pub fn number(self) -> u32
+        ensures { result ≡ refusal_number self }
+    {
+        match self {
+            Refusal::Dimension => 1,
+            Refusal::Attribute => 2,
+            Refusal::Groups => 3,
+            Refusal::ElementCount => 4,
+            Refusal::Size => 5,
+            Refusal::OutputCount => 6,
+            Refusal::EmptyWindow => 7,
+            Refusal::SliceLength => 8,
+            Refusal::BadElement { .. } => 9,
+        }
+    }
+}
+
+impl SheetError {
+    // Its number in document 01.
+    pub fn number(self) -> u32
+        ensures { result ≡ sheet_number self }
+    {
+        match self {
+            SheetError::Key => 20,
+            SheetError::Number => 21,
+            SheetError::Word => 22,
+            SheetError::Unused => 23,
+            SheetError::Room => 24,
+        }
+    }
+}
+
 // ---- kinds
 
 pub fn is_pool(op: Op) -> bool
     ensures { result ≡ is_pool op }
 {
-    match op {
-        Op::Convolution => false,
-        Op::Transposed => false,
-        Op::MaxPool => true,
-    }
+    op == Op::MaxPool
 }
 
 pub fn is_transposed(op: Op) -> bool
     ensures { result ≡ is_transposed op }
 {
-    match op {
-        Op::Convolution => false,
-        Op::Transposed => true,
-        Op::MaxPool => false,
-    }
-}
-
-pub fn is_convolution(op: Op) -> bool
-    ensures { result ≡ is_convolution op }
-{
-    match op {
-        Op::Convolution => true,
-        Op::Transposed => false,
-        Op::MaxPool => false,
-    }
+    op == Op::Transposed
 }
 
 // Whether two operators are of one kind.
 pub fn same_op(a: Op, b: Op) -> bool
     ensures { result ≡ same_op a b }
 {
-    match a {
-        Op::Convolution => is_convolution(b),
-        Op::Transposed => is_transposed(b),
-        Op::MaxPool => is_pool(b),
-    }
+    a == b
 }
 
 pub fn is_explicit(m: AutoPad) -> bool
     ensures { result ≡ is_explicit m }
 {
-    match m {
-        AutoPad::Explicit => true,
-        AutoPad::SameUpper => false,
-        AutoPad::SameLower => false,
-        AutoPad::Valid => false,
-    }
+    m == AutoPad::Explicit
 }
 
 // The same modes: same_upper and same_lower.
 pub fn is_same(m: AutoPad) -> bool
     ensures { result ≡ is_same m }
 {
-    match m {
-        AutoPad::Explicit => false,
-        AutoPad::SameUpper => true,
-        AutoPad::SameLower => true,
-        AutoPad::Valid => false,
-    }
-}
-
-fn is_floor(r: Rounding) -> bool
-    ensures { result ≡ is_floor r }
-{
-    match r {
-        Rounding::Floor => true,
-        Rounding::Ceil => false,
-        Rounding::CeilTorch => false,
-    }
-}
-
-fn is_ceil(r: Rounding) -> bool
-    ensures { result ≡ is_ceil r }
-{
-    match r {
-        Rounding::Floor => false,
-        Rounding::Ceil => true,
-        Rounding::CeilTorch => false,
-    }
+    matches!(m, AutoPad::SameUpper | AutoPad::SameLower)
 }
 
 pub fn is_ceil_torch(r: Rounding) -> bool
     ensures { result ≡ is_ceil_torch r }
 {
-    match r {
-        Rounding::Floor => false,
-        Rounding::Ceil => false,
-        Rounding::CeilTorch => true,
-    }
-}
-
-// Whether two roundings are one.
-fn same_rounding(a: Rounding, b: Rounding) -> bool
-    ensures { result ≡ same_rounding a b }
-{
-    match a {
-        Rounding::Floor => is_floor(b),
-        Rounding::Ceil => is_ceil(b),
-        Rounding::CeilTorch => is_ceil_torch(b),
-    }
+    r == Rounding::CeilTorch
 }
 
 // ---- versions
@@ -272,7 +276,7 @@ fn same_rounding(a: Rounding, b: Rounding) -> bool
 pub fn version_in(version: u32) -> bool
     ensures { result ≡ version_in version }
 {
-    (version == 8) | (version == 14)
+    matches!(version, 8 | 14)
 }
 
 // Version 14 is of max pooling alone.
@@ -314,7 +318,7 @@ pub fn uses_z(axes: u32) -> bool
 fn inside(lo: u32, hi: u32, v: u32) -> bool
     ensures { result ≡ within lo hi v }
 {
-    (lo <= v) & (v <= hi)
+    (lo..=hi).contains(&v)
 }
 
 pub fn images_ok(n: u32) -> bool
@@ -376,9 +380,9 @@ pub fn elements_ok(n: usize) -> bool
 pub fn axis_ok(axes: u32, axis: i32) -> bool
     ensures { result ≡ axis_ok axes axis }
 {
-    let rank = axes as i64 + 2;
-    let at = axis as i64;
-    (-rank <= at) & (at < rank)
+    let rank = i64::from(axes) + 2;
+    let at = i64::from(axis);
+    (-rank..rank).contains(&at)
 }
 
 // ---- defaults: pooling's rounding and axis are at theirs where no pooling uses them
@@ -386,11 +390,11 @@ pub fn axis_ok(axes: u32, axis: i32) -> bool
 pub fn is_default_rounding(rounding: Rounding) -> bool
     ensures { result ≡ is_default_rounding rounding }
 {
-    same_rounding(rounding, Layer::ROUNDING)
+    rounding == Layer::ROUNDING
 }
 
 pub fn is_default_axis_attribute(axis: i32) -> bool
     ensures { result ≡ is_default_axis_attribute axis }
 {
-    (Layer::AXIS <= axis) & (axis <= Layer::AXIS)
+    axis == Layer::AXIS
 }
