@@ -1,5 +1,6 @@
 -- The taps of an output by its position along each axis: those that the code finds are those of the output's number (`taps_are_inside`), and their places lie in the
 -- tensors (`tap_bounds`).
+use Rattle.std.specs.Prelude.{None, Option, Some}
 use mathlib.Core.Path.{◌≡◌, refl, sym, ap, ap₂, ◌∙◌}
 use mathlib.Core.List.{List}
 use Prim.Native.Nat.{ℕ, ◌+◌, ◌*◌, ◌/◌, ◌%◌, ◌≤◌, ◌<◌}
@@ -8,8 +9,6 @@ use native.Mathlib.Omega.{arith}
 use lib.ListN.{length}
 use lib.Ieee.{Float}
 use Rattle.layer.proofs.Places.{place_within}
-use Rattle.taps.specs.declared.Tap.{Tap}
-use Rattle.taps.specs.declared.Tap.TheVariants.{Outside, At}
 use Rattle.taps.specs.Joins.{forward}
 use Rattle.taps.proofs.Exact.{both_outer, both_inner, both_at}
 use Rattle.shape.specs.declared.Shape.{Shape}
@@ -33,30 +32,30 @@ use Rattle.halved.specs.declared.Output.{Output}
 
 -- ---- what a tap adds to +0
 module _ (input kernel : List Float) (o : Output) (t : ℕ) where
-  abbrev z : Tap
+  abbrev z : Option ℕ
   z = forward o.z o.depth (depth_of_tap o t % o.z.kernel)
 
-  abbrev y : Tap
+  abbrev y : Option ℕ
   y = forward o.y o.row (row_of_tap o t % o.y.kernel)
 
-  abbrev x : Tap
+  abbrev x : Option ℕ
   x = forward o.x o.column (t % o.x.kernel)
 
   -- +0 where it lies outside along one axis
-  nothing : lies_on o t ≡ Outside → plus_zero ≡ add_tap plus_zero (output_taps input kernel o t)
+  nothing : lies_on o t ≡ None → plus_zero ≡ add_tap plus_zero (output_taps input kernel o t)
   nothing e = none_same plus_zero ∙ ap (add_tap plus_zero) (sym (placed_none input kernel _ _ _ e))
 
-  pub outside_z : z ≡ Outside → plus_zero ≡ add_tap plus_zero (output_taps input kernel o t)
+  pub outside_z : z ≡ None → plus_zero ≡ add_tap plus_zero (output_taps input kernel o t)
   outside_z e = nothing (rw (e, both_outer, both_outer))
 
-  pub outside_y : y ≡ Outside → plus_zero ≡ add_tap plus_zero (output_taps input kernel o t)
+  pub outside_y : y ≡ None → plus_zero ≡ add_tap plus_zero (output_taps input kernel o t)
   outside_y e = nothing (rw (e, both_inner, both_outer))
 
-  pub outside_x : x ≡ Outside → plus_zero ≡ add_tap plus_zero (output_taps input kernel o t)
+  pub outside_x : x ≡ None → plus_zero ≡ add_tap plus_zero (output_taps input kernel o t)
   outside_x e = nothing (rw (e, both_inner))
 
   -- its product where it lies inside along every axis
-  pub inside : {iz iy ix : ℕ} → z ≡ At iz → y ≡ At iy → x ≡ At ix
+  pub inside : {iz iy ix : ℕ} → z ≡ Some iz → y ≡ Some iy → x ≡ Some ix
       → output_taps input kernel o t
       ≡ pair (read input ((((o.plane + channel_of_tap o t) * o.z.input + iz) * o.y.input + iy) * o.x.input + ix)) (read kernel (o.weight + t))
   inside {iz} {iy} {ix} ez ey ex =
@@ -110,7 +109,7 @@ held_fewer o taps fewer inputs weights l h =
     }
 
 -- ---- output number j
-placed_same : {a b v w : ℕ} {y z : Tap} → a ≡ b → v ≡ w → y ≡ z → placed a v y ≡ placed b w z
+placed_same : {a b v w : ℕ} {y z : Option ℕ} → a ≡ b → v ≡ w → y ≡ z → placed a v y ≡ placed b w z
 placed_same e g k = rw (e, g, k)
 
 module _ (s : Shape) (h : Grouped s) {j : ℕ} (l : j < s.outputs) where

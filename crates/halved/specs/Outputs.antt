@@ -1,6 +1,5 @@
 -- For the code, and no part of what is promised: the taps of an output by its position along each axis.
-use Rattle.std.specs.Prelude.{List, ℕ, ◌+◌, ◌*◌, ◌/◌, ◌%◌, ◌≤◌, ◌<◌, Float}
-use Rattle.taps.specs.declared.Tap.{Tap}
+use Rattle.std.specs.Prelude.{List, ℕ, ◌+◌, ◌*◌, ◌/◌, ◌%◌, ◌≤◌, ◌<◌, Float, Option}
 use Rattle.taps.specs.Joins.{forward, both}
 use Rattle.shape.specs.declared.Shape.{Shape}
 use Rattle.shape.specs.Volumes.{out_rows}
@@ -34,7 +33,7 @@ abbrev pub channel_of_tap : Output → ℕ → ℕ
 channel_of_tap o t = depth_of_tap o t / o.z.kernel
 
 -- where it lies in its plane of the input, along all axes
-abbrev pub lies_on : Output → ℕ → Tap
+abbrev pub lies_on : Output → ℕ → Option ℕ
 lies_on o t =
     both
     o.x.input

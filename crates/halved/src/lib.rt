@@ -16,7 +16,7 @@ use layer::{Answer, Layer, Op};
 use shape::{Shape, out_rows};
 use sizes::Span;
 use sums::add_product;
-use taps::{Tap, forward};
+use taps::{forward};
 
 // An output: the axes, its position along each, the first plane of its group in the input and its first weight.
 #[derive(Clone, Copy)]
@@ -65,15 +65,15 @@ fn single(input: &[f32], kernel: &[f32], o: Output, t: usize) -> f32
     let depth = row / o.y.kernel;
     let channel = depth / o.z.kernel;
     let z = forward(o.z, o.depth, depth % o.z.kernel);
-    let Tap::At(iz) = z else {
+    let Some(iz) = z else {
         return 0.0;
     };
     let y = forward(o.y, o.row, row % o.y.kernel);
-    let Tap::At(iy) = y else {
+    let Some(iy) = y else {
         return 0.0;
     };
     let x = forward(o.x, o.column, tap % o.x.kernel);
-    let Tap::At(ix) = x else {
+    let Some(ix) = x else {
         return 0.0;
     };
     let plane = (o.plane + channel as usize) * o.z.input as usize + iz;

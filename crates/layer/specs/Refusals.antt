@@ -1,5 +1,5 @@
 -- The numbers of refusals.
-use Rattle.std.specs.Prelude.{ℕ}
+use Rattle.std.specs.Prelude.{ℕ, Result, Ok, Err}
 use Rattle.layer.specs.declared.Refusal.{Refusal}
 use Rattle.layer.specs.declared.Refusal.TheVariants.{Dimension, Attribute, Groups, ElementCount, Size, OutputCount, EmptyWindow, SliceLength, BadElement}
 use Rattle.layer.specs.declared.SheetError.{SheetError}
@@ -34,3 +34,8 @@ sheet_number Number = 21
 sheet_number Word = 22
 sheet_number Unused = 23
 sheet_number Room = 24
+
+-- the number that a call or its checks come back with: 0 where they are done
+abbrev pub number_of : {A : Type 0} → Result A Refusal → ℕ
+number_of (Ok a) = 0
+number_of (Err e) = refusal_number e

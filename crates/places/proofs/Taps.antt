@@ -1,4 +1,5 @@
 -- An output's taps by channel, depth, row and column: what each has for the sum over the taps inside the input.
+use Rattle.std.specs.Prelude.{None, Option, Some}
 use mathlib.Core.Path.{◌≡◌, sym, ap, ap₂, ◌∙◌}
 use mathlib.Core.List.{List}
 use Prim.Native.Nat.{ℕ, ◌+◌, ◌*◌, ◌/◌, ◌%◌, ◌≤◌, ◌<◌}
@@ -6,8 +7,6 @@ use native.Mathlib.Nat.{mul_assoc, mod-lt, div-add-mod'}
 use native.Mathlib.Omega.{arith}
 use lib.Ieee.{Float}
 use Rattle.layer.proofs.Places.{place_div, place_mod, place_within, part_within, div_within}
-use Rattle.taps.specs.declared.Tap.{Tap}
-use Rattle.taps.specs.declared.Tap.TheVariants.{Outside, At}
 use Rattle.taps.specs.Joins.{forward, both}
 use Rattle.shape.specs.declared.Shape.{Shape}
 use Rattle.shape.specs.Facts.{Grouped}
@@ -58,7 +57,7 @@ tap_number s i a b k = i * kernel_volume s + (a * plane_taps s + (b * s.x.kernel
 
 module _ (s : Shape) (h : Grouped s) (line i : ℕ) {p a b k : ℕ} (hp : p < s.x.out) (ha : a < s.z.kernel) (hb : b < s.y.kernel) (hk : k < s.x.kernel) where
   -- where it lies in its plane, along all axes
-  abbrev pub lies : Tap
+  abbrev pub lies : Option ℕ
   lies = both s.x.input (both s.y.input (forward s.z (line % out_rows s / s.y.out) a) (forward s.y (line % out_rows s % s.y.out) b)) (forward s.x p k)
 
   row_first : a * plane_taps s + (b * s.x.kernel + k) ≡ (a * s.y.kernel + b) * s.x.kernel + k
@@ -81,10 +80,10 @@ module _ (s : Shape) (h : Grouped s) (line i : ℕ) {p a b k : ℕ} (hp : p < s.
 
 -- ---- what it has for the sum
 
-pub placed_none : (input kernel : List Float) (start weight : ℕ) (t : Tap) → t ≡ Outside → tap_at input kernel (inside_only (placed start weight t)) ≡ none
+pub placed_none : (input kernel : List Float) (start weight : ℕ) (t : Option ℕ) → t ≡ None → tap_at input kernel (inside_only (placed start weight t)) ≡ none
 unfolding placed inside_only tap_at
 placed_none input kernel start weight t e = rw e
 
-pub placed_pair : (input kernel : List Float) (start weight q : ℕ) (t : Tap) → t ≡ At q → tap_at input kernel (inside_only (placed start weight t)) ≡ pair (read input (start + q)) (read kernel weight)
+pub placed_pair : (input kernel : List Float) (start weight q : ℕ) (t : Option ℕ) → t ≡ Some q → tap_at input kernel (inside_only (placed start weight t)) ≡ pair (read input (start + q)) (read kernel weight)
 unfolding placed inside_only tap_at
 placed_pair input kernel start weight q t e = rw e

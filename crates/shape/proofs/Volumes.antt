@@ -1,4 +1,5 @@
 -- Laws of the axes of a plane as one. Beside the code that computes rows, number 7 and the reading laws, nothing else opens the definitions of rows.
+use Rattle.std.specs.Prelude.{Option}
 use Prim.Native.Nat.{ℕ, ◌+◌, ◌*◌, ◌/◌, ◌%◌, ◌≤◌, ◌<◌}
 use native.Mathlib.Nat.{le-mul_of_pos_right, mul_comm, div-eq_of_lt, mod-eq_of_lt}
 use native.Mathlib.Omega.{arith}
@@ -10,14 +11,13 @@ use Rattle.layer.proofs.Tests.{and_both}
 use Rattle.layer.proofs.Places.{place_div, place_mod}
 use Rattle.sizes.specs.declared.Span.{Span}
 use Rattle.taps.specs.declared.Direction.{Direction}
-use Rattle.taps.specs.declared.Tap.{Tap}
 use Rattle.taps.specs.Joins.{tap_on, both, is_at, Below}
 use Rattle.taps.proofs.Joins.{first_tap_lem, both_first, both_below, both_inside}
 use Rattle.shape.specs.declared.Shape.{Shape}
 use Rattle.shape.specs.Volumes.{input_rows, kernel_rows, out_rows, input_volume, on_rows, on_plane}
 use Rattle.shape.specs.Facts.{Sound}
 
-module _ (f : Span → ℕ → ℕ → Tap) (s : Shape) where
+module _ (f : Span → ℕ → ℕ → Option ℕ) (s : Shape) where
   -- row y of depth z of the output plane, and row b of depth a of the kernel
   pub rows_at : (z a : ℕ) {y b : ℕ} → y < s.y.out → b < s.y.kernel
       → on_rows f s (z * s.y.out + y) (a * s.y.kernel + b) ≡ both s.y.input (f s.z z a) (f s.y y b)

@@ -1,8 +1,7 @@
 -- The axes of a plane as one. A plane is all that one image has in one channel, with three axes all its depths (the plane picker hands back one of them). All
 -- axes but the last are folded into rows, here and nowhere else, so that the operators know rows and columns alone.
-use Rattle.std.specs.Prelude.{ℕ, ◌+◌, ◌*◌, ◌/◌, ◌%◌}
+use Rattle.std.specs.Prelude.{ℕ, ◌+◌, ◌*◌, ◌/◌, ◌%◌, Option}
 use Rattle.sizes.specs.declared.Span.{Span}
-use Rattle.taps.specs.declared.Tap.{Tap}
 use Rattle.taps.specs.Joins.{both}
 use Rattle.shape.specs.declared.Shape.{Shape}
 
@@ -17,12 +16,12 @@ unfoldable pub out_rows : Shape → ℕ
 out_rows s = s.z.out * s.y.out
 
 -- two axes as one, y the inner
-abbrev pub on_depths : (Span → ℕ → ℕ → Tap) → Span → Span → ℕ → ℕ → Tap
+abbrev pub on_depths : (Span → ℕ → ℕ → Option ℕ) → Span → Span → ℕ → ℕ → Option ℕ
 on_depths f z y p k = both y.input (f z (p / y.out) (k / y.kernel)) (f y (p % y.out) (k % y.kernel))
 
 -- the row of the input at which kernel row k of output row p lies: `f` is `forward` (convolution, pooling) or `backward` (transposed); "likewise for depths",
 -- "and likewise for z"
-unfoldable pub on_rows : (Span → ℕ → ℕ → Tap) → Shape → ℕ → ℕ → Tap
+unfoldable pub on_rows : (Span → ℕ → ℕ → Option ℕ) → Shape → ℕ → ℕ → Option ℕ
 on_rows f s p k = on_depths f s.z s.y p k
 
 -- ---- positions of a plane: "Row-major, last axis fastest."
@@ -36,7 +35,7 @@ abbrev pub out_volume : Shape → ℕ
 out_volume s = out_rows s * s.x.out
 
 -- the position of the input plane at which kernel position k of output position p lies: "likewise for depths and columns", "and likewise for z and x"
-unfoldable pub on_plane : (Span → ℕ → ℕ → Tap) → Shape → ℕ → ℕ → Tap
+unfoldable pub on_plane : (Span → ℕ → ℕ → Option ℕ) → Shape → ℕ → ℕ → Option ℕ
 on_plane f s p k = both s.x.input (on_rows f s (p / s.x.out) (k / s.x.kernel)) (f s.x (p % s.x.out) (k % s.x.kernel))
 
 -- ---- planes: "G groups, C = G·I, output channels G·O". Output plane (n·G + g)·O + o has the input planes (n·G + g)·I + i.

@@ -15,12 +15,12 @@ ghost use Rattle.shape.specs.Facts.{Passed, Fitted};
 
 use counts::{modulus_of, times, volume};
 use layer::{
-    AutoPad, Axis, Layer, Op, Rounding, axes_in, axis_ok, channels_ok, elements_ok, images_ok,
-    is_default_axis_attribute, is_default_rounding, is_explicit, is_pool, lacks_op, lacks_rounding,
-    same_op, taps_ok, uses_y, uses_z, version_in,
+    AutoPad, Axis, Layer, Op, Refusal, Rounding, axes_in, axis_ok, channels_ok, elements_ok,
+    images_ok, is_default_axis_attribute, is_default_rounding, is_explicit, is_pool, lacks_op,
+    lacks_rounding, same_op, taps_ok, uses_y, uses_z, version_in,
 };
-use sizes::{Sizing, Span, axis_attributes_ok, axis_dimensions_ok, mode_ok, size_axis};
-use taps::{Direction, Tap, some_missed, tap_on};
+use sizes::{Span, axis_attributes_ok, axis_dimensions_ok, mode_ok, size_axis};
+use taps::{Direction, some_missed, tap_on};
 
 // What an accepted layer comes to: its sizes and output channels, the spans of its axes, the taps of an output, the elements of input, kernel and output, and
 // what the index of a pooled element is counted modulo.
@@ -40,13 +40,6 @@ pub struct Shape {
     pub weights: usize,
     pub outputs: usize,
     pub modulus: usize,
-}
-
-// What checks 1 to 7 say: the shape, or the number.
-#[derive(Clone, Copy)]
-pub enum Judged {
-    Accepted(Shape),
-    Refused(u32),
 }
 
 // ---- number 1
@@ -121,15 +114,14 @@ fn not_pooling_ok(rounding: Rounding, axis: i32) -> bool
     is_default_rounding(rounding) & is_default_axis_attribute(axis)
 }
 
+#[tactic(auto, unfolding(crate::specs::Checks::unused_ok))]
 fn unused_ok(op: Op, l: Layer) -> bool
     ensures { result ≡ unused_ok op l }
 {
-    let axis = l.axis;
-    let rounding = l.rounding;
     if is_pool(op) {
-        pooling_ok(l.axes, axis, l.g, l.o, l.i)
+        pooling_ok(l.axes, l.axis, l.g, l.o, l.i)
     } else {
-        not_pooling_ok(rounding, axis)
+        not_pooling_ok(l.rounding, l.axis)
     }
 }
 
@@ -139,16 +131,14 @@ fn version_ok(version: u32, op: Op, rounding: Rounding) -> bool
     version_in(version) & !lacks_op(version, op) & !lacks_rounding(version, rounding)
 }
 
+#[tactic(auto, unfolding(crate::specs::Checks::attributes_ok))]
 fn attributes_ok(op: Op, l: Layer) -> bool
     ensures { result ≡ attributes_ok op l }
 {
-    let own = l.op;
-    let m = l.auto_pad;
-    let rounding = l.rounding;
-    same_op(op, own)
-        & version_ok(l.version, own, rounding)
-        & mode_ok(op, m)
-        & axes_ok(op, m, l.axes, l.z, l.y, l.x)
+    same_op(op, l.op)
+        & version_ok(l.version, l.op, l.rounding)
+        & mode_ok(op, l.auto_pad)
+        & axes_ok(op, l.auto_pad, l.axes, l.z, l.y, l.x)
         & unused_ok(op, l)
 }
 
@@ -190,12 +180,9 @@ fn groups_ok(op: Op, c: u32, g: u32, i: u32) -> bool
 fn counts_ok(op: Op, l: Layer) -> bool
     ensures { result ≡ counts_ok op l }
 {
-    let z = l.z;
-    let y = l.y;
-    let x = l.x;
-    let taps = tap_count(l.i, z.kernel, y.kernel, x.kernel);
-    let input = input_count(l.n, l.c, z.input, y.input, x.input);
-    let kernel = kernel_count(l.g, l.o, l.i, z.kernel, y.kernel, x.kernel);
+    let taps = tap_count(l.i, l.z.kernel, l.y.kernel, l.x.kernel);
+    let input = input_count(l.n, l.c, l.z.input, l.y.input, l.x.input);
+    let kernel = kernel_count(l.g, l.o, l.i, l.z.kernel, l.y.kernel, l.x.kernel);
     (is_pool(op) | taps_ok(taps)) & elements_ok(input) & elements_ok(kernel)
 }
 
@@ -205,25 +192,21 @@ fn output_channels(op: Op, c: u32, g: u32, o: u32) -> usize
     ensures { result ≡ output_channels op c g o }
 {
     match op {
-        Op::Convolution => product(g, o),
-        Op::Transposed => product(g, o),
+        Op::Convolution | Op::Transposed => product(g, o),
         Op::MaxPool => c as usize,
     }
 }
 
 // Number 7, one axis at a time: a window is empty exactly if it is on some axis.
+#[tactic(auto, using(crate::proofs::Empty::some_empty_split))]
 fn windows_ok(op: Op, s: Shape) -> bool
     requires { SpanLimits s.z × SpanLimits s.y × SpanLimits s.x }
     ensures { result ≡ not (is_pool op && some_empty s) }
 {
-    if is_pool(op) {
-        let missed_z = some_missed(s.z);
-        let missed_y = some_missed(s.y);
-        let missed_x = some_missed(s.x);
-        !(missed_z | missed_y | missed_x)
-    } else {
-        true
+    if !is_pool(op) {
+        return true;
     }
+    !(some_missed(s.z) | some_missed(s.y) | some_missed(s.x))
 }
 
 fn shape_of(l: Layer, z: Span, y: Span, x: Span, channels: usize, outputs: usize) -> Shape
@@ -231,14 +214,10 @@ fn shape_of(l: Layer, z: Span, y: Span, x: Span, channels: usize, outputs: usize
     requires modulus { modulus_of l ≤ 16777216 }
     ensures { result ≡ shape_with l z y x channels outputs }
 {
-    let az = l.z;
-    let ay = l.y;
-    let ax = l.x;
-    let axis = l.axis;
-    let taps = tap_count(l.i, az.kernel, ay.kernel, ax.kernel);
-    let inputs = input_count(l.n, l.c, az.input, ay.input, ax.input);
-    let weights = kernel_count(l.g, l.o, l.i, az.kernel, ay.kernel, ax.kernel);
-    let modulus = modulus_of(l.axes, axis, l.n, l.c, az.input, ay.input, ax.input);
+    let taps = tap_count(l.i, l.z.kernel, l.y.kernel, l.x.kernel);
+    let inputs = input_count(l.n, l.c, l.z.input, l.y.input, l.x.input);
+    let weights = kernel_count(l.g, l.o, l.i, l.z.kernel, l.y.kernel, l.x.kernel);
+    let modulus = modulus_of(l.axes, l.axis, l.n, l.c, l.z.input, l.y.input, l.x.input);
     Shape {
         n: l.n as usize,
         c: l.c as usize,
@@ -258,29 +237,21 @@ fn shape_of(l: Layer, z: Span, y: Span, x: Span, channels: usize, outputs: usize
 }
 
 // Checks 5 to 7.
-fn judge_sizes(op: Op, l: Layer) -> Judged
+#[tactic(auto, using(crate::proofs::Fits::unfit_z, crate::proofs::Fits::unfit_y, crate::proofs::Fits::unfit_x, crate::proofs::Fits::fitted))]
+fn judge_sizes(op: Op, l: Layer) -> Result<Shape, Refusal>
     requires { Passed op l }
     ensures { result ≡ judged op l }
 {
     let m = l.auto_pad;
     let rounding = l.rounding;
-    let sized_z = size_axis(op, m, rounding, l.z);
-    let Sizing::Sized(z) = sized_z else {
-        return Judged::Refused(5);
-    };
-    let sized_y = size_axis(op, m, rounding, l.y);
-    let Sizing::Sized(y) = sized_y else {
-        return Judged::Refused(5);
-    };
-    let sized_x = size_axis(op, m, rounding, l.x);
-    let Sizing::Sized(x) = sized_x else {
-        return Judged::Refused(5);
-    };
+    let z = size_axis(op, m, rounding, l.z).ok_or(Refusal::Size)?;
+    let y = size_axis(op, m, rounding, l.y).ok_or(Refusal::Size)?;
+    let x = size_axis(op, m, rounding, l.x).ok_or(Refusal::Size)?;
     judge_spans(op, l, z, y, x)
 }
 
 // Checks 6 and 7.
-fn judge_spans(op: Op, l: Layer, z: Span, y: Span, x: Span) -> Judged
+fn judge_spans(op: Op, l: Layer, z: Span, y: Span, x: Span) -> Result<Shape, Refusal>
     requires { Fitted op l z y x }
     ensures { result ≡ judged op l }
 {
@@ -288,30 +259,31 @@ fn judge_spans(op: Op, l: Layer, z: Span, y: Span, x: Span) -> Judged
     let planes = times(l.n as usize, channels);
     let outputs = volume(planes, z.out as usize, y.out as usize, x.out as usize);
     if !elements_ok(outputs) {
-        return Judged::Refused(6);
+        return Err(Refusal::OutputCount);
     }
     let s = shape_of(l, z, y, x, channels, outputs);
     if !windows_ok(op, s) {
-        return Judged::Refused(7);
+        return Err(Refusal::EmptyWindow);
     }
-    Judged::Accepted(s)
+    Ok(s)
 }
 
 // Checks 1 to 7, lowest first, by the operator that is called.
-pub fn judge(op: Op, layer: Layer) -> Judged
+#[tactic(auto, unfolding(crate::specs::Judge::judged))]
+pub fn judge(op: Op, layer: Layer) -> Result<Shape, Refusal>
     ensures { result ≡ judged op layer }
 {
     if !dimensions_ok(op, layer) {
-        return Judged::Refused(1);
+        return Err(Refusal::Dimension);
     }
     if !attributes_ok(op, layer) {
-        return Judged::Refused(2);
+        return Err(Refusal::Attribute);
     }
     if !groups_ok(op, layer.c, layer.g, layer.i) {
-        return Judged::Refused(3);
+        return Err(Refusal::Groups);
     }
     if !counts_ok(op, layer) {
-        return Judged::Refused(4);
+        return Err(Refusal::ElementCount);
     }
     judge_sizes(op, layer)
 }
@@ -337,17 +309,12 @@ pub fn out_rows(s: Shape) -> usize
 }
 
 // Two axes as one: where a tap lies that lies at `outer` on one axis and at `inner` on the next, of so many positions.
-fn both(size: u32, outer: Tap, inner: Tap) -> Tap
+#[tactic(auto, unfolding(taps::specs::Joins::both, taps::specs::Joins::Below))]
+fn both(size: u32, outer: Option<usize>, inner: Option<usize>) -> Option<usize>
     requires { Below (2 ^ 32) outer × Below (2 ^ 32) inner }
     ensures { result ≡ both size outer inner }
 {
-    let Tap::At(a) = outer else {
-        return Tap::Outside;
-    };
-    let Tap::At(b) = inner else {
-        return Tap::Outside;
-    };
-    Tap::At(a * size as usize + b)
+    Some(outer? * size as usize + inner?)
 }
 
 // The position on the outer and on the inner of two axes of a number along both.
@@ -371,7 +338,7 @@ fn taken_apart(n: u32, size: u32) -> Parts
 }
 
 // Two axes as one: where a tap of both lies.
-fn folded_tap(d: Direction, z: Span, y: Span, p: u32, k: u32) -> Tap
+fn folded_tap(d: Direction, z: Span, y: Span, p: u32, k: u32) -> Option<usize>
     ensures { result ≡ on_depths (tap_on d) z y p k }
 {
     let row = taken_apart(p, y.out);
@@ -383,7 +350,7 @@ fn folded_tap(d: Direction, z: Span, y: Span, p: u32, k: u32) -> Tap
 
 // The row of the input at which kernel row k of output row p lies, in either direction. A row of the first depth, which is all that one or two axes have, is
 // found without a division.
-pub fn row_tap(d: Direction, s: Shape, p: u32, k: u32) -> Tap
+pub fn row_tap(d: Direction, s: Shape, p: u32, k: u32) -> Option<usize>
     ensures { result ≡ on_rows (tap_on d) s p k }
 {
     let first = (p < s.y.out) & (k < s.y.kernel) & (s.z.begin == 0) & (0 < s.z.input);

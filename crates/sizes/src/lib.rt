@@ -23,13 +23,6 @@ pub struct Span {
     pub out: u32,
 }
 
-// What the size rule makes of an axis: its span, or none.
-#[derive(Clone, Copy)]
-pub enum Sizing {
-    Sized(Span),
-    Unfit,
-}
-
 // The padding on both sides of an axis.
 #[derive(Clone, Copy)]
 pub struct Pads {
@@ -282,14 +275,14 @@ pub fn mode_ok(op: Op, m: AutoPad) -> bool
 }
 
 // The size rule: the span of an axis on which none of the numbers 1, 2 and 5 holds.
-pub fn size_axis(op: Op, auto_pad: AutoPad, rounding: Rounding, axis: Axis) -> Sizing
+pub fn size_axis(op: Op, auto_pad: AutoPad, rounding: Rounding, axis: Axis) -> Option<Span>
     ensures { result ≡ sizing op auto_pad rounding axis }
 {
     if !(axis_dimensions_ok(axis) & axis_attributes_ok(op, auto_pad, axis)) {
-        return Sizing::Unfit;
+        return None;
     }
     if !axis_fits(op, auto_pad, axis) {
-        return Sizing::Unfit;
+        return None;
     }
-    Sizing::Sized(span_of(op, auto_pad, rounding, axis))
+    Some(span_of(op, auto_pad, rounding, axis))
 }

@@ -1,4 +1,5 @@
 -- What a range of taps says of each tap, and what is said at once of all taps of a position; output positions with the same taps inside the input.
+use Rattle.std.specs.Prelude.{None, Option, Some}
 use Prim.Native.Nat.{ℕ, ◌+◌, ◌-◌, ◌*◌, ◌≤◌, ◌<◌}
 use native.Mathlib.Nat.{add_comm, mul-le-mul_right}
 use native.Mathlib.Omega.{arith}
@@ -11,8 +12,6 @@ use Rattle.layer.proofs.Tests.{and_both, and_of, and_false}
 use Rattle.sizes.specs.declared.Span.{Span}
 use Rattle.sizes.specs.Size.{ceil_div}
 use Rattle.sizes.proofs.Division.{lt_ceil, stride_some}
-use Rattle.taps.specs.declared.Tap.{Tap}
-use Rattle.taps.specs.declared.Tap.TheVariants.{Outside, At}
 use Rattle.taps.specs.Taps.{tap_position, inside, tap_inside, position_of, turned, Exactly, SameTaps, Alike, AllBefore}
 use Rattle.taps.specs.Joins.{forward, both}
 
@@ -116,11 +115,11 @@ turned_exactly s k first count e = record { exactly = λ p. ap (λ (b : Bool). l
 
 -- ---- where a tap lies, by the test
 module _ (s : Span) (p k : ℕ) where
-  pub forward_at : tap_inside s p k ≡ true → forward s p k ≡ At (position_of s p k)
+  pub forward_at : tap_inside s p k ≡ true → forward s p k ≡ Some (position_of s p k)
   unfolding forward
   forward_at e = rw e
 
-  pub forward_outside : tap_inside s p k ≡ false → forward s p k ≡ Outside
+  pub forward_outside : tap_inside s p k ≡ false → forward s p k ≡ None
   unfolding forward
   forward_outside e = rw e
 
@@ -131,15 +130,15 @@ module _ (s : Span) (p k : ℕ) where
   position_begin e = leb-true _ _ (and_both (leb s.begin (tap_position s.stride s.dilation p k)) _ e).0
 
 -- outside on either of two axes is outside on both
-pub both_outer : (m : ℕ) (t : Tap) → both m Outside t ≡ Outside
+pub both_outer : (m : ℕ) (t : Option ℕ) → both m None t ≡ None
 unfolding both
 both_outer m t = refl
 
-pub both_inner : (m : ℕ) (t : Tap) → both m t Outside ≡ Outside
+pub both_inner : (m : ℕ) (t : Option ℕ) → both m t None ≡ None
 unfolding both
-both_inner m (At a) = refl
-both_inner m Outside = refl
+both_inner m (Some a) = refl
+both_inner m None = refl
 
-pub both_at : (m a b : ℕ) → both m (At a) (At b) ≡ At (a * m + b)
+pub both_at : (m a b : ℕ) → both m (Some a) (Some b) ≡ Some (a * m + b)
 unfolding both
 both_at m a b = refl

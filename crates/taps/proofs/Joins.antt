@@ -1,4 +1,5 @@
 -- A tap finds the one position that it joins; two axes are one.
+use Rattle.std.specs.Prelude.{None, Option, Some}
 use Prim.Native.Nat.{ℕ, ◌+◌, ◌-◌, ◌*◌, ◌/◌, ◌%◌, ◌≤◌, ◌<◌}
 use native.Mathlib.Nat.{div-add-mod', mul-mod_left, mul-div_cancel, div-lt_iff_lt-mul, mod-lt, zero-add, zero-mul, zero-div, zero-mod}
 use native.Mathlib.Omega.{arith}
@@ -11,8 +12,6 @@ use Rattle.layer.proofs.Places.{place_div, place_mod, place_within}
 use Rattle.sizes.specs.declared.Span.{Span}
 use Rattle.taps.specs.declared.Direction.{Direction}
 use Rattle.taps.specs.declared.Direction.TheVariants.{Forward, Backward}
-use Rattle.taps.specs.declared.Tap.{Tap}
-use Rattle.taps.specs.declared.Tap.TheVariants.{Outside, At}
 use Rattle.taps.specs.Taps.{tap_position, tap_inside}
 use Rattle.taps.specs.Joins.{joins, forward, position_in, position_by, reach_of, backward, tap_on, both, is_at, Finds, Below}
 
@@ -21,44 +20,44 @@ pub multiple : (size stride distance : ℕ) → distance % stride ≡ 0 → posi
 unfolding position_by
 multiple size stride distance e = simp (eq-eqb _ _ e)
 
-pub no_multiple : (size stride distance : ℕ) → (distance % stride ≡ 0 → ⊥) → position_by size stride distance ≡ Outside
+pub no_multiple : (size stride distance : ℕ) → (distance % stride ≡ 0 → ⊥) → position_by size stride distance ≡ None
 unfolding position_by
 no_multiple size stride distance n = simp (ne_eqb _ _ n)
 
 -- ---- a tap that finds
-finds_same : (n : ℕ) (f g : ℕ → Bool) (t : Tap) → ((q : ℕ) → f q ≡ g q) → Finds n f t → Finds n g t
+finds_same : (n : ℕ) (f g : ℕ → Bool) (t : Option ℕ) → ((q : ℕ) → f q ≡ g q) → Finds n f t → Finds n g t
 finds_same n f g t e h = subst (λ (test : ℕ → Bool). Finds n test t) (fun_ext e) h
 
-pub finds_below : (n : ℕ) (test : ℕ → Bool) (t : Tap) → Finds n test t → Below n t
+pub finds_below : (n : ℕ) (test : ℕ → Bool) (t : Option ℕ) → Finds n test t → Below n t
 unfolding Finds Below
-finds_below n f (At q) h = h.0
-finds_below n f Outside h = tt
+finds_below n f (Some q) h = h.0
+finds_below n f None h = tt
 
 -- the position that passes the test is the one that is found
-pub finds_at : (n : ℕ) (test : ℕ → Bool) (t : Tap) (q : ℕ) → Finds n test t → q < n → test q ≡ true → t ≡ At q
+pub finds_at : (n : ℕ) (test : ℕ → Bool) (t : Option ℕ) (q : ℕ) → Finds n test t → q < n → test q ≡ true → t ≡ Some q
 unfolding Finds
-finds_at n f (At r) q h l e = ap At (sym (h.2 q l e))
-finds_at n f Outside q h l e = absurd (h q l e)
+finds_at n f (Some r) q h l e = ap Some (sym (h.2 q l e))
+finds_at n f None q h l e = absurd (h q l e)
 
 -- and the one that is found passes it
-pub at_finds : (n : ℕ) (test : ℕ → Bool) (t : Tap) (q : ℕ) → Finds n test t → t ≡ At q → (q < n) × (test q ≡ true)
+pub at_finds : (n : ℕ) (test : ℕ → Bool) (t : Option ℕ) (q : ℕ) → Finds n test t → t ≡ Some q → (q < n) × (test q ≡ true)
 unfolding Finds
 at_finds n f t q h e = let u = subst (Finds n f) e h in (u.0, u.1)
 
-pub below_at : (n : ℕ) (t : Tap) (q : ℕ) → Below n t → t ≡ At q → q < n
+pub below_at : (n : ℕ) (t : Option ℕ) (q : ℕ) → Below n t → t ≡ Some q → q < n
 unfolding Below
 below_at n t q h e = subst (Below n) e h
 
-pub below_more : (n m : ℕ) (t : Tap) → n ≤ m → Below n t → Below m t
+pub below_more : (n m : ℕ) (t : Option ℕ) → n ≤ m → Below n t → Below m t
 unfolding Below
-below_more n m (At q) h k = omega arith
-below_more n m Outside h k = tt
+below_more n m (Some q) h k = omega arith
+below_more n m None h k = tt
 
-finds_none : (n : ℕ) (test : ℕ → Bool) → ((r : ℕ) → r < n → test r ≡ true → ⊥) → Finds n test Outside
+finds_none : (n : ℕ) (test : ℕ → Bool) → ((r : ℕ) → r < n → test r ≡ true → ⊥) → Finds n test None
 unfolding Finds
 finds_none n f h = h
 
-outside_below : (n : ℕ) → Below n Outside
+outside_below : (n : ℕ) → Below n None
 unfolding Below
 outside_below n = tt
 
@@ -73,7 +72,7 @@ forward_finds s p k = go (tap_inside s p k) refl
     met : (r : ℕ) → r < s.input → joins s p k r ≡ true → tap_inside s p k ≡ true
     met r l e = let t = eqb-true c (r + s.begin) e in and_of _ _ (le-leb s.begin c (omega arith)) (lt-ltb (c - s.begin) s.input (omega arith))
 
-    go : (b : Bool) → tap_inside s p k ≡ b → Finds s.input (joins s p k) (cond b (At (c - s.begin)) Outside)
+    go : (b : Bool) → tap_inside s p k ≡ b → Finds s.input (joins s p k) (cond b (Some (c - s.begin)) None)
     go true e =
         let u = and_both (leb s.begin c) (ltb (c - s.begin) s.input) e in
         let h = leb-true s.begin c u.0 in
@@ -92,7 +91,7 @@ position_finds n s d h = go (eqb (d % s) 0) (ltb (d / s) n) refl refl
           sym (ap (λ (x : ℕ). x / s) (sym t) ∙ mul-div_cancel q h),
         )
 
-    go : (a b : Bool) → eqb (d % s) 0 ≡ a → ltb (d / s) n ≡ b → Finds n (λ q. eqb (q * s) d) (cond a (cond b (At (d / s)) Outside) Outside)
+    go : (a b : Bool) → eqb (d % s) 0 ≡ a → ltb (d / s) n ≡ b → Finds n (λ q. eqb (q * s) d) (cond a (cond b (Some (d / s)) None) None)
     go true true e f =
         let z = eqb-true (d % s) 0 e in
         let w = div-add-mod' d s in
@@ -107,7 +106,7 @@ reach_finds n d s t k h = go (leb (k * d) t) refl
     same : k * d ≤ t → (q : ℕ) → eqb (q * s) (t - k * d) ≡ eqb (q * s + k * d) t
     same l q = both_ways _ _ (λ e. let u = eqb-true (q * s) (t - k * d) e in eq-eqb (q * s + k * d) t (omega arith)) (λ e. let u = eqb-true (q * s + k * d) t e in eq-eqb (q * s) (t - k * d) (omega arith))
 
-    go : (b : Bool) → leb (k * d) t ≡ b → Finds n (λ q. eqb (q * s + k * d) t) (cond b (position_by n s (t - k * d)) Outside)
+    go : (b : Bool) → leb (k * d) t ≡ b → Finds n (λ q. eqb (q * s + k * d) t) (cond b (position_by n s (t - k * d)) None)
     go true e = finds_same n _ _ (position_by n s (t - k * d)) (same (leb-true (k * d) t e)) (position_finds n s (t - k * d) h)
     go false e = finds_none n _ (λ q l f. let u = eqb-true (q * s + k * d) t f in let v = leb-false (k * d) t e in omega arith)
 
@@ -123,7 +122,7 @@ position_below : (n s d : ℕ) → Below n (position_by n s d)
 unfolding position_by Below
 position_below n s d = go (eqb (d % s) 0) (ltb (d / s) n) refl
   where
-    go : (a b : Bool) → ltb (d / s) n ≡ b → Below n (cond a (cond b (At (d / s)) Outside) Outside)
+    go : (a b : Bool) → ltb (d / s) n ≡ b → Below n (cond a (cond b (Some (d / s)) None) None)
     go true true e = ltb-true (d / s) n e
     go true false e = tt
     go false b e = tt
@@ -132,7 +131,7 @@ pub reach_below : (n d s t k : ℕ) → Below n (reach_of n d s t k)
 unfolding reach_of
 reach_below n d s t k = go (leb (k * d) t)
   where
-    go : (b : Bool) → Below n (cond b (position_by n s (t - k * d)) Outside)
+    go : (b : Bool) → Below n (cond b (position_by n s (t - k * d)) None)
     go true = position_below n s (t - k * d)
     go false = outside_below n
 
@@ -146,46 +145,46 @@ tap_below Forward s p k = forward_below s p k
 tap_below Backward s p k = backward_below s p k
 
 -- without padding tap 0 of position 0 lies at position 0
-pub first_tap_lem : (d : Direction) (s : Span) → s.begin ≡ 0 → 0 < s.input → tap_on d s 0 0 ≡ At 0
+pub first_tap_lem : (d : Direction) (s : Span) → s.begin ≡ 0 → 0 < s.input → tap_on d s 0 0 ≡ Some 0
 unfolding forward backward reach_of position_by
 first_tap_lem Forward s e h = rw e (simp (zero-mul, lt-ltb 0 s.input h))
 first_tap_lem Backward s e h = rw e (simp (zero-mul, zero-mod, zero-div, lt-ltb 0 s.input h))
 
 -- ---- two axes as one; so three
-pub both_finds : (n m : ℕ) (f g : ℕ → Bool) (a b : Tap) → 1 ≤ m → Finds n f a → Finds m g b → Finds (n * m) (λ q. f (q / m) && g (q % m)) (both m a b)
+pub both_finds : (n m : ℕ) (f g : ℕ → Bool) (a b : Option ℕ) → 1 ≤ m → Finds n f a → Finds m g b → Finds (n * m) (λ q. f (q / m) && g (q % m)) (both m a b)
 unfolding both Finds
-both_finds n m f g (At i) (At j) h u v = (
+both_finds n m f g (Some i) (Some j) h u v = (
   place_within u.0 v.0,
   and_of _ _ (ap f (place_div i v.0) ∙ u.1) (ap g (place_mod i v.0) ∙ v.1),
   λ r l e. let t = and_both (f (r / m)) (g (r % m)) e in
       sym (div-add-mod' r m) ∙ ap₂ (λ (x y : ℕ). x * m + y) (u.2 (r / m) ((div-lt_iff_lt-mul h).1 l) t.0) (v.2 (r % m) (mod-lt r h) t.1),
 )
-both_finds n m f g (At i) Outside h u v = λ r l e. v (r % m) (mod-lt r h) (and_both (f (r / m)) (g (r % m)) e).1
-both_finds n m f g Outside b h u v = λ r l e. u (r / m) ((div-lt_iff_lt-mul h).1 l) (and_both (f (r / m)) (g (r % m)) e).0
+both_finds n m f g (Some i) None h u v = λ r l e. v (r % m) (mod-lt r h) (and_both (f (r / m)) (g (r % m)) e).1
+both_finds n m f g None b h u v = λ r l e. u (r / m) ((div-lt_iff_lt-mul h).1 l) (and_both (f (r / m)) (g (r % m)) e).0
 
-pub both_below : (n m : ℕ) (a b : Tap) → Below n a → Below m b → Below (n * m) (both m a b)
+pub both_below : (n m : ℕ) (a b : Option ℕ) → Below n a → Below m b → Below (n * m) (both m a b)
 unfolding both Below
-both_below n m (At i) (At j) h k = place_within h k
-both_below n m (At i) Outside h k = tt
-both_below n m Outside b h k = tt
+both_below n m (Some i) (Some j) h k = place_within h k
+both_below n m (Some i) None h k = tt
+both_below n m None b h k = tt
 
 -- at the first position of the outer axis
-pub both_first : (m : ℕ) (t : Tap) → both m (At 0) t ≡ t
+pub both_first : (m : ℕ) (t : Option ℕ) → both m (Some 0) t ≡ t
 unfolding both
-both_first m (At j) = ap At (simp (zero-mul, zero-add))
-both_first m Outside = refl
+both_first m (Some j) = ap Some (simp (zero-mul, zero-add))
+both_first m None = refl
 
 -- inside on both
-pub both_inside : (m : ℕ) (a b : Tap) → is_at (both m a b) ≡ is_at a && is_at b
+pub both_inside : (m : ℕ) (a b : Option ℕ) → is_at (both m a b) ≡ is_at a && is_at b
 unfolding both is_at
-both_inside m (At i) (At j) = refl
-both_inside m (At i) Outside = refl
-both_inside m Outside b = refl
+both_inside m (Some i) (Some j) = refl
+both_inside m (Some i) None = refl
+both_inside m None b = refl
 
 pub forward_inside : (s : Span) (p k : ℕ) → is_at (forward s p k) ≡ tap_inside s p k
 unfolding forward is_at
 forward_inside s p k = go (tap_inside s p k)
   where
-    go : (b : Bool) → is_at (cond b (At (tap_position s.stride s.dilation p k - s.begin)) Outside) ≡ b
+    go : (b : Bool) → is_at (cond b (Some (tap_position s.stride s.dilation p k - s.begin)) None) ≡ b
     go true = refl
     go false = refl

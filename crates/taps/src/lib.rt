@@ -1,4 +1,5 @@
-// Where a tap of an axis lies, and which taps lie inside the input.
+// Where a tap of an axis lies, and which taps lie inside the input. A tap is document 01's term for one place of the kernel: along an axis, or along several axes
+// taken as one, it lies at a position of the input, or outside the input, which is None.
 #![tactic(auto)]
 
 ghost use Rattle.std.specs.Prelude.{◌≡◌, ◌+◌, ◌-◌, ◌*◌, ◌<◌};
@@ -6,14 +7,6 @@ ghost use Rattle.taps.specs.Taps.{tap_position, tap_inside, position_of, turned,
 ghost use Rattle.taps.specs.Joins.{position_in, position_by, forward, backward, tap_on};
 
 use sizes::{Span, ceil_div, least, minus};
-
-// Where a tap lies along an axis, or along several axes taken as one: outside the input, or at a position of it. A tap is document 01's term for one place of
-// the kernel.
-#[derive(Clone, Copy)]
-pub enum Tap {
-    Outside,
-    At(usize),
-}
 
 // The taps of one output position that lie inside the input: `count` of them, from `first` on.
 #[derive(Clone, Copy)]
@@ -39,14 +32,10 @@ pub enum Direction {
 // ---- where a tap lies
 
 // A position of an axis of this size, if it lies inside.
-fn position(at: usize, size: u32) -> Tap
+fn position(at: usize, size: u32) -> Option<usize>
     ensures { result ≡ position_in size at }
 {
-    if at < size as usize {
-        Tap::At(at)
-    } else {
-        Tap::Outside
-    }
+    (at < size as usize).then_some(at)
 }
 
 // The position of tap k of output position p, counted from the start of the padding.
@@ -57,20 +46,17 @@ fn tap_position(s: Span, p: u32, k: u32) -> usize
 }
 
 // The input position at which tap k of output position p lies.
-pub fn forward(s: Span, p: u32, k: u32) -> Tap
+#[tactic(auto, unfolding(crate::specs::Joins::forward, crate::specs::Taps::inside))]
+pub fn forward(s: Span, p: u32, k: u32) -> Option<usize>
     ensures { result ≡ forward s p k }
 {
-    let at = tap_position(s, p, k);
-    let begin = s.begin as usize;
-    if at < begin {
-        return Tap::Outside;
-    }
-    position(at - begin, s.input)
+    let at = tap_position(s, p, k).checked_sub(s.begin as usize)?;
+    position(at, s.input)
 }
 
 // The position that so many strides come to, if they come to one. A stride of 1 needs no division.
 #[tactic(auto, using(crate::proofs::Joins::multiple, crate::proofs::Joins::no_multiple))]
-fn position_by(distance: usize, stride: usize, size: u32) -> Tap
+fn position_by(distance: usize, stride: usize, size: u32) -> Option<usize>
     ensures { result ≡ position_by size stride distance }
 {
     if stride == 1 {
@@ -80,28 +66,26 @@ fn position_by(distance: usize, stride: usize, size: u32) -> Tap
         if distance == 0 {
             return position(0, size);
         }
-        return Tap::Outside;
+        return None;
     }
     if distance % stride != 0 {
-        return Tap::Outside;
+        return None;
     }
     position(distance / stride, size)
 }
 
 // The input position that tap k reaches from output position q.
-pub fn backward(s: Span, q: u32, k: u32) -> Tap
+#[tactic(auto, unfolding(crate::specs::Joins::backward, crate::specs::Joins::reach_of))]
+pub fn backward(s: Span, q: u32, k: u32) -> Option<usize>
     ensures { result ≡ backward s q k }
 {
     let from = q as usize + s.begin as usize;
-    let back = k as usize * s.dilation as usize;
-    if from < back {
-        return Tap::Outside;
-    }
-    position_by(from - back, s.stride as usize, s.input)
+    let distance = from.checked_sub(k as usize * s.dilation as usize)?;
+    position_by(distance, s.stride as usize, s.input)
 }
 
 // The input position of tap k from output position p, in either direction.
-pub fn tap_on(d: Direction, s: Span, p: u32, k: u32) -> Tap
+pub fn tap_on(d: Direction, s: Span, p: u32, k: u32) -> Option<usize>
     ensures { result ≡ tap_on d s p k }
 {
     match d {

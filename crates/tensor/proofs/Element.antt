@@ -1,24 +1,25 @@
 -- Laws of the element check: what a good element is, what `Good` and `Bad` tell of a tensor, and one turn of each loop: the one that finds the first bad
 -- element and the one that counts.
-use mathlib.Core.Path.{◌≡◌, refl, sym, ◌∙◌}
+use mathlib.Core.Path.{◌≡◌, refl, sym, ap, ◌∙◌}
 use mathlib.Core.Bool.{Bool, true, false, not, ◌&&◌, cond, false≢true}
 use mathlib.Core.List.{List, [], ◌∷◌}
 use mathlib.Core.Logic.{◌↔◌}
 use Prim.Native.Nat.{ℕ, zero, suc, ◌+◌, ◌*◌, ◌^◌, ◌≤◌, ◌<◌, zero-le, suc-le-suc}
-use native.Mathlib.Nat.{zero-add, zero-lt-suc, not-suc-le-zero, le_of_suc-le-suc, mul-one, pos_of_ne-zero}
-use native.Mathlib.Numerals.{add-one}
+use native.Mathlib.Nat.{add-zero, zero-add, zero-lt-suc, not-suc-le-zero, le_of_suc-le-suc, mul-one, pos_of_ne-zero}
 use native.Mathlib.Omega.{arith}
 use lib.IntN.{ℤ, pos}
 use lib.Dec.{T, eqb, leb, ltb, leb→le, le→leb, ltb→lt, nltb→le, not_T}
-use borrow.Author.Tests.{eqb-true, eqb-false}
-use lib.ListN.{length, drop}
-use lib.Seq.{drop-cons, drop-length}
+use borrow.Author.Tests.{eqb-true, eqb-false, ltb-true, ltb-false}
+use lib.ListN.{length}
+use Rattle.std.specs.Prelude.{None, Some, Result, Ok, Err, ⊤, fold, count_by, position}
+use Rattle.std.specs.List.{position_or_len}
+use Rattle.std.specs.Prelude.{nat_lt}
 use lib.Ieee.{Float, nan, inf, fin, up, down, lt, eq, le, is_nan, binary32, of_bits}
 use lib.Ieee.Fits.{and_i, and_l, and_r}
 use lib.Ieee.Bits.{is_true}
 use Rattle.tensor.specs.Table.{read}
-use Rattle.tensor.specs.Element.{element_ok, first_bad, bad_count, element_check}
-use Rattle.tensor.specs.declared.Elements.TheVariants.{Good, Bad}
+use Rattle.tensor.specs.Element.{element_ok, first_bad, bad_count, good, bad_from, element_check}
+use Rattle.tensor.specs.declared.BadElements.{BadElements as BadPlaces}
 use Rattle.tensor.proofs.Order.{NotNan, test_same, le_of_not_lt, not_lt_of_le}
 
 -- ---- one element
@@ -156,18 +157,18 @@ first (x ∷ xs) h = go (element_ok x) refl h (λ l. first xs l)
 -- ---- what the element check tells of a tensor
 
 -- the number is 0 exactly for a good tensor
-pub good_count : (xs : List Float) → (element_check xs ≡ Good) ↔ (bad_count xs ≡ 0)
+pub good_count : (xs : List Float) → (element_check xs ≡ good) ↔ (bad_count xs ≡ 0)
 unfolding element_check
 good_count xs = go (eqb (bad_count xs) 0) refl
   where
-    go : (b : Bool) → eqb (bad_count xs) 0 ≡ b → (cond b Good (Bad (first_bad xs) (bad_count xs)) ≡ Good) ↔ (bad_count xs ≡ 0)
+    go : (b : Bool) → eqb (bad_count xs) 0 ≡ b → (cond b good (bad_from (first_bad xs) (bad_count xs)) ≡ good) ↔ (bad_count xs ≡ 0)
     go true t = (λ e. eqb-true _ _ t, λ e. refl)
     go false t = (λ e. absurd (false≢true cc), λ e. absurd (eqb-false _ _ t e))
 
-pub all_good : (xs : List Float) → element_check xs ≡ Good → (k : ℕ) → k < length xs → T (element_ok (read xs k))
+pub all_good : (xs : List Float) → element_check xs ≡ good → (k : ℕ) → k < length xs → T (element_ok (read xs k))
 all_good xs e = none_bad xs ((good_count xs).0 e)
 
-pub good_all : (xs : List Float) → ((k : ℕ) → k < length xs → T (element_ok (read xs k))) → element_check xs ≡ Good
+pub good_all : (xs : List Float) → ((k : ℕ) → k < length xs → T (element_ok (read xs k))) → element_check xs ≡ good
 good_all xs h = (good_count xs).1 (bad_none xs h)
 
 -- The element at the place is bad and none before it is; the number is that of the bad elements, at least 1, and all of them stand from the place on.
@@ -179,68 +180,82 @@ pub record BadElements (xs : List Float) (place count : ℕ) : Type 0 where
   pub some : 1 ≤ count
   pub within : place + count ≤ length xs
 
-pub bad_elements : (xs : List Float) (place count : ℕ) → element_check xs ≡ Bad place count → BadElements xs place count
+abbrev told : Result ⊤ BadPlaces → BadPlaces
+told (Ok u) = record { place = 0; bad = 0 }
+told (Err b) = b
+
+pub bad_elements : (xs : List Float) (place count : ℕ) → element_check xs ≡ bad_from place count → BadElements xs place count
 unfolding element_check
 bad_elements xs place count e = go (eqb (bad_count xs) 0) refl e
   where
-    go : (b : Bool) → eqb (bad_count xs) 0 ≡ b → cond b Good (Bad (first_bad xs) (bad_count xs)) ≡ Bad place count → BadElements xs place count
+    go : (b : Bool) → eqb (bad_count xs) 0 ≡ b → cond b good (bad_from (first_bad xs) (bad_count xs)) ≡ bad_from place count → BadElements xs place count
     go true t e = absurd (false≢true cc)
     go false t e =
-        let p : first_bad xs ≡ place = cc in
-        let q : bad_count xs ≡ count = cc in
+        let p : first_bad xs ≡ place = ap (λ (r : Result ⊤ BadPlaces). (told r).place) e in
+        let q : bad_count xs ≡ count = ap (λ (r : Result ⊤ BadPlaces). (told r).bad) e in
         let one = pos_of_ne-zero (eqb-false _ _ t) in
         let f = first xs one in
         record { first = sym p; bad = rw p at f.bad; earlier = rw p at f.earlier; counted = sym q; some = rw q at one; within = omega (arith, bad_within xs) }
 
--- what it finds, from its two parts
-check_bad : (xs : List Float) (place : ℕ) → first_bad xs ≡ place → 1 ≤ bad_count xs → Bad place (bad_count xs) ≡ element_check xs
-unfolding element_check
-check_bad xs place p one = go (eqb (bad_count xs) 0) refl
+-- ---- the library's count and position
+
+-- an element that does not pass
+abbrev pub is_bad : Float → Bool
+is_bad x = not (element_ok x)
+
+count_from : (n : ℕ) (xs : List Float) → fold (λ a x. a + cond (is_bad x) 1 0) n xs ≡ n + bad_count xs
+unfolding bad_count
+count_from n [] = sym (add-zero n)
+count_from n (x ∷ xs) = count_from (n + cond (is_bad x) 1 0) xs ∙ go (element_ok x)
   where
-    go : (b : Bool) → eqb (bad_count xs) 0 ≡ b → Bad place (bad_count xs) ≡ cond b Good (Bad (first_bad xs) (bad_count xs))
-    go true t = absurd (omega (arith, eqb-true (bad_count xs) 0 t))
-    go false t = rw p
+    go : (b : Bool) → n + cond (not b) 1 0 + bad_count xs ≡ n + cond b (bad_count xs) (suc (bad_count xs))
+    go true = omega arith
+    go false = omega arith
 
--- ---- the loop that counts
+-- the bad elements are counted
+pub count_is : (xs : List Float) → count_by is_bad xs ≡ bad_count xs
+count_is xs = count_from 0 xs ∙ zero-add _
 
--- one element more
-pub count_good : (xs : List Float) (i : ℕ) → i < length xs → element_ok (read xs i) ≡ true → bad_count (drop i xs) ≡ bad_count (drop (i + 1) xs)
-unfolding bad_count
-count_good xs i h e = rw (add-one, drop-cons xs i nan, e)
-
-pub count_bad : (xs : List Float) (i : ℕ) → i < length xs → element_ok (read xs i) ≡ false → bad_count (drop i xs) ≡ bad_count (drop (i + 1) xs) + 1
-unfolding bad_count
-count_bad xs i h e = rw (add-one (bad_count (drop (i + 1) xs)), add-one i, drop-cons xs i nan, e)
-
--- none left
-pub count_none : (xs : List Float) (i : ℕ) → i ≤ length xs → length xs ≤ i → bad_count (drop i xs) ≡ 0
-unfolding bad_count
-count_none xs i h k =
-    let e : i ≡ length xs = omega arith in
-    rw (e, drop-length)
-
--- ---- the loop that finds the first
-
--- the elements before place i are good
-pub record GoodBefore (xs : List Float) (i : ℕ) : Type 0 where
-  pub count : bad_count (drop i xs) ≡ bad_count xs
-  pub place : i + first_bad (drop i xs) ≡ first_bad xs
-
-pub good_before : (xs : List Float) → GoodBefore xs 0
-good_before xs = record { count = refl; place = zero-add _ }
-
-pub good_more : (xs : List Float) (i : ℕ) → i < length xs → element_ok (read xs i) ≡ true → GoodBefore xs i → GoodBefore xs (i + 1)
+first_len : (xs : List Float) → position_or_len is_bad xs ≡ first_bad xs
 unfolding first_bad
-good_more xs i h e g =
-    let more : first_bad (drop i xs) ≡ suc (first_bad (drop (i + 1) xs)) = rw (add-one, drop-cons xs i nan, e) in
-    record { count = sym (count_good xs i h e) ∙ g.count; place = omega (arith, g.place) }
+first_len [] = refl
+first_len (x ∷ xs) = go (element_ok x) (first_len xs)
+  where
+    go : (b : Bool) → position_or_len is_bad xs ≡ first_bad xs → cond (not (not b)) (1 + position_or_len is_bad xs) 0 ≡ cond b (suc (first_bad xs)) 0
+    go true h = omega (arith, h)
+    go false h = refl
 
-pub found_bad : (xs : List Float) (i : ℕ) → i < length xs → element_ok (read xs i) ≡ false → GoodBefore xs i → Bad i (bad_count xs) ≡ element_check xs
-unfolding first_bad
-found_bad xs i h e g =
-    let here : first_bad (drop i xs) ≡ 0 = rw (drop-cons xs i nan, e) in
-    let place : first_bad xs ≡ i = omega (arith, g.place) in
-    check_bad xs i place (omega (arith, g.count, count_bad xs i h e))
+-- a tensor with no bad element has its first one at its end
+first_none : (xs : List Float) → bad_count xs ≡ 0 → first_bad xs ≡ length xs
+unfolding first_bad bad_count
+first_none [] h = refl
+first_none (x ∷ xs) h = go (element_ok x) (λ e. first_none xs e) h
+  where
+    go : (b : Bool) → (bad_count xs ≡ 0 → first_bad xs ≡ length xs) → cond b (bad_count xs) (suc (bad_count xs)) ≡ 0 → cond b (suc (first_bad xs)) 0 ≡ suc (length xs)
+    go true f h = omega (arith, f h)
+    go false f h = absurd (omega arith)
 
-pub found_none : (xs : List Float) (i : ℕ) → i ≤ length xs → length xs ≤ i → GoodBefore xs i → Good ≡ element_check xs
-found_none xs i h k g = sym ((good_count xs).1 (sym g.count ∙ count_none xs i h k))
+-- the position of the first bad element, where there is one
+position_at : (xs : List Float) → position is_bad xs ≡ cond (nat_lt (first_bad xs) (length xs)) (Some (first_bad xs)) None
+position_at xs = rw (first_len xs)
+
+-- what the check finds, by that position
+pub found_none : (xs : List Float) → position is_bad xs ≡ None → good ≡ element_check xs
+unfolding element_check
+found_none xs e = go (eqb (bad_count xs) 0) (nat_lt (first_bad xs) (length xs)) refl refl (sym (position_at xs) ∙ e)
+  where
+    go : (b c : Bool) → eqb (bad_count xs) 0 ≡ b → nat_lt (first_bad xs) (length xs) ≡ c → cond c (Some (first_bad xs)) None ≡ None
+        → good ≡ cond b good (bad_from (first_bad xs) (bad_count xs))
+    go true c t u h = refl
+    go false true t u h = absurd (false≢true cc)
+    go false false t u h = absurd (omega (arith, bad_within xs, eqb-false (bad_count xs) 0 t, ltb-false (first_bad xs) (length xs) u))
+
+pub found_bad : (xs : List Float) (place : ℕ) → position is_bad xs ≡ Some place → bad_from place (bad_count xs) ≡ element_check xs
+unfolding element_check
+found_bad xs place e = go (eqb (bad_count xs) 0) (nat_lt (first_bad xs) (length xs)) refl refl (sym (position_at xs) ∙ e)
+  where
+    go : (b c : Bool) → eqb (bad_count xs) 0 ≡ b → nat_lt (first_bad xs) (length xs) ≡ c → cond c (Some (first_bad xs)) None ≡ Some place
+        → bad_from place (bad_count xs) ≡ cond b good (bad_from (first_bad xs) (bad_count xs))
+    go b false t u h = absurd (false≢true cc)
+    go true true t u h = absurd (omega (arith, first_none xs (eqb-true (bad_count xs) 0 t), ltb-true (first_bad xs) (length xs) u))
+    go false true t u h = cc

@@ -13,13 +13,15 @@ use lib.Seq.{get_or_at, get_or-append-add}
 use lib.Ieee.{Float, lt, le}
 use borrow.Author.Tests.{eqb-false}
 use Rattle.tensor.specs.Table.{read, tabulate}
-use Rattle.tensor.specs.Element.{element_check}
+use Rattle.tensor.specs.Element.{element_check, good}
 use Rattle.tensor.specs.Window.{best_of, better_of, up_to, All, FirstLargest, HoldsBest}
-use Rattle.tensor.specs.Peak.{no_peak, wrong_length, peak_at, checked_peak, peak_of, LargestOfPlane}
+use Rattle.std.specs.Prelude.{Result, Ok, Err, ⊤}
+use Rattle.layer.specs.declared.Refusal.TheVariants.{SliceLength}
+use Rattle.tensor.specs.Peak.{wrong_length, peak_at, checked_peak, peak_of, LargestOfPlane}
+use Rattle.tensor.specs.declared.Peak.{Peak}
+use Rattle.tensor.specs.declared.BadElements.{BadElements}
 use Rattle.tensor.specs.declared.Window.{Window}
 use Rattle.tensor.specs.declared.Window.TheVariants.{Empty, Best}
-use Rattle.tensor.specs.declared.Elements.{Elements}
-use Rattle.tensor.specs.declared.Elements.TheVariants.{Good, Bad}
 use Rattle.tensor.proofs.Table.{tabulate_length, tabulate_get}
 use Rattle.tensor.proofs.Order.{NotNan, le_of_lt, le_refl}
 use Rattle.tensor.proofs.Element.{all_good, element_number}
@@ -76,7 +78,7 @@ module _ (xs : List Float) (n : ℕ) (v : Float) (p : ℕ) (h : FirstLargest xs 
           subst (λ (u : Float). T (le u v)) (h.value ∙ ap (read xs) (sym e)) (le_refl v t)
 
 -- ---- the peak of a plane of good elements
-module _ (plane : List Float) (width : ℕ) (good : element_check plane ≡ Good) (some : 0 < width) where
+module _ (plane : List Float) (width : ℕ) (good : element_check plane ≡ good) (some : 0 < width) where
   number : (q : ℕ) → q < length plane → NotNan (read plane q)
   number q l = element_number (read plane q) (all_good plane good q l)
 
@@ -88,30 +90,32 @@ module _ (plane : List Float) (width : ℕ) (good : element_check plane ≡ Good
   holds_best : HoldsBest plane (up_to (length plane)) (best_of plane (up_to (length plane)) Empty)
   holds_best = first_largest plane (up_to (length plane)) (numbers (length plane) (omega arith))
 
-  of_window : (w : Window) → HoldsBest plane (up_to (length plane)) w → (peak_at width w).number ≡ 0 → LargestOfPlane plane width (peak_at width w).peak
-  of_window Empty h e = absurd (omega arith)
-  of_window (Best v p) h e =
+  of_window : (w : Window) (k : Peak) → HoldsBest plane (up_to (length plane)) w → peak_at width w ≡ Ok k → LargestOfPlane plane width k
+  of_window Empty k h e = absurd (false≢true cc)
+  of_window (Best v p) k h e =
+      let is : record { value = v; row = p / width; column = p % width } ≡ k = cc in
       let inside = place_below plane (length plane) v p h in
       let same : p ≡ p / width * width + p % width = sym (div-add-mod' p width) in
-      record {
+      subst (LargestOfPlane plane width) is
+      (record {
         column = mod-lt p some;
         within = subst (λ (r : ℕ). r < length plane) same inside;
         value = h.value ∙ ap (read plane) same;
         largest = all_most plane (length plane) v p h (subst NotNan (sym h.value) (number p inside));
         first = subst (λ (r : ℕ). (q : ℕ) → q < r → T (lt (read plane q) v)) same (earlier_below plane (length plane) v p h);
-      }
+      })
 
   -- a plane that has an element has a peak
-  some_element : (w : Window) → HoldsBest plane (up_to (length plane)) w → 0 < length plane → (peak_at width w).number ≡ 0
+  some_element : (w : Window) → HoldsBest plane (up_to (length plane)) w → 0 < length plane → (k : Peak) × (peak_at width w ≡ Ok k)
   some_element Empty h l = absurd (omega (arith, sym (tabulate_length (λ k. k) (length plane)) ∙ ap length h))
-  some_element (Best v p) h l = refl
+  some_element (Best v p) h l = (_, refl)
 
 -- ---- the peak of any plane
-of_check : (plane : List Float) (width : ℕ) (f : Elements) → element_check plane ≡ f → 0 < width → (checked_peak plane width f).number ≡ 0
-    → LargestOfPlane plane width (checked_peak plane width f).peak
-of_check plane width Good q h e =
-    of_window plane width q h (best_of plane (up_to (length plane)) Empty) (holds_best plane width q h) e
-of_check plane width (Bad place count) q h e = absurd (omega arith)
+of_check : (plane : List Float) (width : ℕ) (f : Result ⊤ BadElements) (k : Peak) → element_check plane ≡ f → 0 < width → checked_peak plane width f ≡ Ok k
+    → LargestOfPlane plane width k
+of_check plane width (Ok u) k q h e =
+    of_window plane width q h (best_of plane (up_to (length plane)) Empty) k (holds_best plane width q h) e
+of_check plane width (Err b) k q h e = absurd (false≢true cc)
 
 right_length : (len width : ℕ) → wrong_length len width ≡ false → (0 < width) × (0 < len)
 right_length len width e = go (eqb width 0) (eqb len 0) refl refl e
@@ -121,17 +125,17 @@ right_length len width e = go (eqb width 0) (eqb len 0) refl refl e
     go false true p q e = absurd (false≢true cc)
     go false false p q e = (pos_of_ne-zero (eqb-false width 0 p), pos_of_ne-zero (eqb-false len 0 q))
 
--- where the number is 0, the peak is the first largest element
-pub peak_largest : (plane : List Float) (width : ℕ) → (peak_of plane width).number ≡ 0 → LargestOfPlane plane width (peak_of plane width).peak
-peak_largest plane width e = go (wrong_length (length plane) width) refl e
+-- a peak that is found is the first largest element
+pub peak_largest : (plane : List Float) (width : ℕ) (k : Peak) → peak_of plane width ≡ Ok k → LargestOfPlane plane width k
+peak_largest plane width k e = go (wrong_length (length plane) width) refl e
   where
-    go : (b : Bool) → wrong_length (length plane) width ≡ b → (cond b (no_peak 8 0 0) (checked_peak plane width (element_check plane))).number ≡ 0
-        → LargestOfPlane plane width (cond b (no_peak 8 0 0) (checked_peak plane width (element_check plane))).peak
-    go true q e = absurd (omega arith)
-    go false q e = of_check plane width (element_check plane) refl (right_length (length plane) width q).0 e
+    go : (b : Bool) → wrong_length (length plane) width ≡ b → cond b (Err SliceLength) (checked_peak plane width (element_check plane)) ≡ Ok k
+        → LargestOfPlane plane width k
+    go true q e = absurd (false≢true cc)
+    go false q e = of_check plane width (element_check plane) k refl (right_length (length plane) width q).0 e
 
--- and it is 0 wherever neither 8 nor 9 has its reason
-pub peak_found_lem : (plane : List Float) (width : ℕ) → wrong_length (length plane) width ≡ false → element_check plane ≡ Good → (peak_of plane width).number ≡ 0
+-- and one is found wherever neither 8 nor 9 has its reason
+pub peak_found_lem : (plane : List Float) (width : ℕ) → wrong_length (length plane) width ≡ false → element_check plane ≡ good → (k : Peak) × (peak_of plane width ≡ Ok k)
 peak_found_lem plane width e g =
     let h = right_length (length plane) width e in
     rw (e, g) (some_element plane width g h.0 (best_of plane (up_to (length plane)) Empty) (holds_best plane width g h.0) h.1)

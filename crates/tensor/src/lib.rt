@@ -1,22 +1,35 @@
 // Tensors: the element check, the best of a window, the plane picker and the peak finder.
 #![tactic(auto)]
 
-ghost use Rattle.std.specs.Prelude.{◌+◌, ◌*◌, ◌≤◌, ◌≡◌, length};
-ghost use Rattle.tensor.specs.Element.{element_ok, bad_count, element_check};
+ghost use Rattle.std.specs.Prelude.{◌+◌, ◌*◌, ◌≤◌, ◌≡◌, length, not, position};
+ghost use Rattle.tensor.specs.Element.{element_ok, bad_count, element_check, bad_elements_of};
 ghost use Rattle.tensor.specs.Window.{better_of, best_of, up_to};
 ghost use Rattle.tensor.specs.Plane.{sizes_ok, has_plane, part_of, plane_of};
-ghost use Rattle.tensor.specs.Peak.{no_peak, wrong_length, peak_at, peak_of};
+ghost use Rattle.tensor.specs.Peak.{wrong_length, peak_at, peak_of};
 
 use counts::{quotient, remainder};
-use layer::{channels_ok, images_ok, size_ok};
+use layer::{Refusal, channels_ok, images_ok, size_ok};
 
 // ---- the element check
 
-// What the element check finds: every element is good, or the place of the first bad one and the number of bad ones.
-#[derive(Clone, Copy)]
-pub enum Elements {
-    Good,
-    Bad(usize, usize),
+// The bad elements of a tensor: the place of the first one, and how many there are.
+#[derive(Clone, Copy, PartialEq, Eq)]
+pub struct BadElements {
+    pub place: usize,
+    pub bad: usize,
+}
+
+impl BadElements {
+    // The refusal that they are, by the number of their tensor.
+    pub fn refusal(self, tensor: u32) -> Refusal
+        ensures { result ≡ bad_elements_of self tensor }
+    {
+        Refusal::BadElement {
+            tensor,
+            place: self.place,
+            bad: self.bad,
+        }
+    }
 }
 
 // Magnitude at most 2^40, and not NaN.
@@ -27,32 +40,32 @@ fn element_ok(x: f32) -> bool
 }
 
 // How many elements are bad.
+#[tactic(auto, using(crate::proofs::Element::count_is))]
 fn bad_count(elements: &[f32]) -> usize
     ensures { result ≡ bad_count elements.now }
 {
-    let mut count = 0usize;
-    let mut i = 0usize;
-    while i < elements.len() {
-        if !element_ok(elements[i]) {
-            count += 1;
-        }
-        i += 1;
-    }
-    count
+    elements.iter().filter(|x| !element_ok(**x)).count()
+}
+
+// The place of the first bad element, if one is bad.
+fn first_bad(elements: &[f32]) -> Option<usize>
+    ensures { result ≡ position (λ x. not (element_ok x)) elements.now }
+{
+    elements.iter().position(|x| !element_ok(*x))
 }
 
 // Number 9: whether every element is good. A good tensor is looked at once; bad elements are counted where there is one.
-pub fn check_elements(xs: &[f32]) -> Elements
+#[tactic(auto, using(crate::proofs::Element::found_none, crate::proofs::Element::found_bad))]
+pub fn check_elements(xs: &[f32]) -> Result<(), BadElements>
     ensures { result ≡ element_check xs.now }
 {
-    let mut i = 0usize;
-    while i < xs.len() {
-        if !element_ok(xs[i]) {
-            return Elements::Bad(i, bad_count(xs));
-        }
-        i += 1;
+    match first_bad(xs) {
+        None => Ok(()),
+        Some(place) => Err(BadElements {
+            place,
+            bad: bad_count(xs),
+        }),
     }
-    Elements::Good
 }
 
 // ---- the best of a window
@@ -179,31 +192,6 @@ pub struct Peak {
     pub column: usize,
 }
 
-// What the peak finder comes back with: for number 9 the place of the first bad element and the number of bad ones.
-#[derive(Clone, Copy)]
-pub struct PeakAnswer {
-    pub number: u32,
-    pub place: usize,
-    pub bad: usize,
-    pub peak: Peak,
-}
-
-// A refusal: the record is zeros.
-fn no_peak(number: u32, place: usize, bad: usize) -> PeakAnswer
-    ensures { result ≡ no_peak number place bad }
-{
-    PeakAnswer {
-        number,
-        place,
-        bad,
-        peak: Peak {
-            value: 0.0,
-            row: 0,
-            column: 0,
-        },
-    }
-}
-
 // Number 8: no width, no element, or a last row that is not whole.
 fn wrong_length(len: usize, width: usize) -> bool
     ensures { result ≡ wrong_length len width }
@@ -213,48 +201,38 @@ fn wrong_length(len: usize, width: usize) -> bool
 }
 
 // The best of a whole plane.
+#[tactic(auto, using(crate::proofs::Peaks::best_none, crate::proofs::Peaks::best_more))]
 fn best_of_plane(plane: &[f32]) -> Window
     ensures { result ≡ best_of plane.now (up_to (length plane.now)) Window.Empty }
 {
     let mut best = Window::Empty;
-    let mut i = 0usize;
-    while i < plane.len() {
-        best = better(best, plane[i], i);
-        i += 1;
+    for (i, v) in plane.iter().enumerate() {
+        best = better(best, *v, i);
     }
     best
 }
 
-// The answer for the best of a plane, which holds an element where the plane does.
-fn peak_at(width: usize, best: Window) -> PeakAnswer
+// The peak that is the best of a plane, which holds an element where the plane does.
+fn peak_at(width: usize, best: Window) -> Result<Peak, Refusal>
     ensures { result ≡ peak_at width best }
 {
     match best {
-        Window::Empty => no_peak(8, 0, 0),
-        Window::Best(v, p) => PeakAnswer {
-            number: 0,
-            place: 0,
-            bad: 0,
-            peak: Peak {
-                value: v,
-                row: quotient(p, width),
-                column: remainder(p, width),
-            },
-        },
+        Window::Empty => Err(Refusal::SliceLength),
+        Window::Best(value, p) => Ok(Peak {
+            value,
+            row: quotient(p, width),
+            column: remainder(p, width),
+        }),
     }
 }
 
 // The peak of a plane with rows of this width.
-pub fn find_peak(plane: &[f32], width: usize) -> PeakAnswer
+pub fn find_peak(plane: &[f32], width: usize) -> Result<Peak, Refusal>
     ensures { result ≡ peak_of plane.now width }
 {
     if wrong_length(plane.len(), width) {
-        return no_peak(8, 0, 0);
+        return Err(Refusal::SliceLength);
     }
-    let found = check_elements(plane);
-    if let Elements::Bad(place, count) = found {
-        return no_peak(9, place, count);
-    }
-    let best = best_of_plane(plane);
-    peak_at(width, best)
+    check_elements(plane).map_err(|b| b.refusal(0))?;
+    peak_at(width, best_of_plane(plane))
 }

@@ -1,8 +1,8 @@
 -- By where the tap lies along each axis: outside along one of them it is +0, else its product added to +0. Its place lies in the input by `tap_bounds`.
+use Rattle.std.specs.Prelude.{Some}
 use mathlib.Core.Path.{◌≡◌, sym, ap₂, ◌∙◌}
 use Prim.Native.Nat.{ℕ, ◌+◌, ◌%◌}
 use native.Mathlib.Omega.{arith}
-use Rattle.taps.specs.declared.Tap.TheVariants.{At}
 use Rattle.taps.specs.Joins.{forward}
 use Rattle.taps.proofs.Joins.{forward_below, below_at}
 use Rattle.sums.specs.Taps.{add_tap}
@@ -31,9 +31,9 @@ nonzero_rem-tap c = c.requires.x_kernel
 module _ (o : Output) (t inputs weights : ℕ) {iz iy ix : ℕ} where
   bounds :
       Held o (t + 1) inputs weights
-      → forward o.z o.depth (depth_of_tap o t % o.z.kernel) ≡ At iz
-      → forward o.y o.row (row_of_tap o t % o.y.kernel) ≡ At iy
-      → forward o.x o.column (t % o.x.kernel) ≡ At ix
+      → forward o.z o.depth (depth_of_tap o t % o.z.kernel) ≡ Some iz
+      → forward o.y o.row (row_of_tap o t % o.y.kernel) ≡ Some iy
+      → forward o.x o.column (t % o.x.kernel) ≡ Some ix
       → TapBounds o t inputs iz iy ix
   bounds h z y x = tap_bounds o h (below_at _ _ _ (forward_below _ _ _) z) (below_at _ _ _ (forward_below _ _ _) y) (below_at _ _ _ (forward_below _ _ _) x)
 
