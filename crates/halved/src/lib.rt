@@ -1,7 +1,7 @@
 // Convolution with halved sums (C-17): each output by itself, a run of its taps by the two parts of the run.
 #![tactic(auto)]
 
-ghost use Rattle.std.specs.Prelude.{◌≡◌, ◌+◌, ◌≤◌, ◌<◌, length};
+ghost use Rattle.std.specs.Prelude.{◌≡◌, ◌+◌, ◌≤◌, ◌<◌, length, IsOk};
 ghost use Rattle.shape.specs.Facts.{Grouped};
 ghost use Rattle.tensor.specs.Table.{plus_zero, tabulate};
 ghost use Rattle.sums.specs.declared.Profile.TheVariants.{Halved};
@@ -11,12 +11,12 @@ ghost use Rattle.call.specs.Fitting.{Fitting};
 ghost use Rattle.places.specs.Places.{place_of};
 ghost use Rattle.halved.specs.Outputs.{output_taps, output_at, Held};
 
-use call::{Verdict, check_sum};
-use layer::{Answer, Layer, Op};
+use call::check_sum;
+use layer::{Layer, Op, Refusal};
 use shape::{Shape, out_rows};
 use sizes::Span;
 use sums::add_product;
-use taps::{forward};
+use taps::forward;
 
 // An output: the axes, its position along each, the first plane of its group in the input and its first weight.
 #[derive(Clone, Copy)]
@@ -113,18 +113,18 @@ fn fill(s: Shape, input: &[f32], kernel: &[f32], output: &mut [f32])
 }
 
 // Convolution with halved sums: checks 1 to 9, and only then every output.
-pub fn with_halved_sums(layer: Layer, input: &[f32], kernel: &[f32], output: &mut [f32]) -> Answer
+pub fn with_halved_sums(
+    layer: Layer,
+    input: &[f32],
+    kernel: &[f32],
+    output: &mut [f32],
+) -> Result<(), Refusal>
     ensures answer { result ≡ answer_of Op.Convolution layer input.now kernel.now (length output.old) }
     ensures contents { output.new ≡ contents_of Op.Convolution Halved place_of layer input.now kernel.now output.old }
-    ensures whole { result.number ≡ 0 → WholeOutputs Op.Convolution Halved place_of layer input.now kernel.now output.new }
-    ensures finite { result.number ≡ 0 → FiniteOutputs output.new }
+    ensures whole { IsOk result → WholeOutputs Op.Convolution Halved place_of layer input.now kernel.now output.new }
+    ensures finite { IsOk result → FiniteOutputs output.new }
 {
-    let verdict = check_sum(Op::Convolution, layer, input, kernel, output.len());
-    match verdict {
-        Verdict::Refuse(answer) => answer,
-        Verdict::Run(s) => {
-            fill(s, input, kernel, output);
-            Answer::numbered(0)
-        }
-    }
+    let s = check_sum(Op::Convolution, layer, input, kernel, output.len())?;
+    fill(s, input, kernel, output);
+    Ok(())
 }

@@ -9,25 +9,11 @@ ghost use Rattle.call.specs.Checks.{sum_verdict};
 ghost use Rattle.products.specs.Products.{products};
 ghost use Rattle.products.specs.Axes.{pairs_inside, counted_in};
 
-use call::{Verdict, check_sum};
-use layer::{Answer, Layer, Op};
+use call::check_sum;
+use layer::{Layer, Op, Refusal};
 use shape::Shape;
 use sizes::Span;
 use taps::{taps_inside, turned};
-
-// What a convolution's call comes back with: its answer, and how many products it formed; 0 where it is refused.
-#[derive(Clone, Copy)]
-pub struct Convolved {
-    pub answer: Answer,
-    pub products: usize,
-}
-
-// What the checks say of a convolution's call: the shape that it runs over and how many products it forms, or the answer of a refusal.
-#[derive(Clone, Copy)]
-pub enum Counted {
-    Run(Shape, usize),
-    Refuse(Answer),
-}
 
 // The pairs of an output position and a tap of it that lies inside the input: position by position.
 fn pairs_by_position(s: Span) -> usize
@@ -66,13 +52,16 @@ fn products_over(s: Shape) -> usize
     planes * positions
 }
 
-// Checks 1 to 9 of a convolution, lowest first, and the products of a call that passes them.
-pub fn check_convolution(layer: Layer, input: &[f32], kernel: &[f32], output: usize) -> Counted
+// Checks 1 to 9 of a convolution, lowest first: the shape of a call that passes them and the products that it forms, or the refusal.
+#[tactic(auto, unfolding(crate::specs::Axes::counted_in))]
+pub fn check_convolution(
+    layer: Layer,
+    input: &[f32],
+    kernel: &[f32],
+    output: usize,
+) -> Result<(Shape, usize), Refusal>
     ensures { result ≡ counted_in (sum_verdict Convolution layer input.now kernel.now output) }
 {
-    let verdict = check_sum(Op::Convolution, layer, input, kernel, output);
-    match verdict {
-        Verdict::Refuse(answer) => Counted::Refuse(answer),
-        Verdict::Run(s) => Counted::Run(s, products_over(s)),
-    }
+    let s = check_sum(Op::Convolution, layer, input, kernel, output)?;
+    Ok((s, products_over(s)))
 }

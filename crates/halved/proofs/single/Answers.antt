@@ -38,37 +38,37 @@ module _ (o : Output) (t inputs weights : ℕ) {iz iy ix : ℕ} where
   bounds h z y x = tap_bounds o h (below_at _ _ _ (forward_below _ _ _) z) (below_at _ _ _ (forward_below _ _ _) y) (below_at _ _ _ (forward_below _ _ _) x)
 
 pub overflow_cast-plane : goal.overflow_cast-plane
-overflow_cast-plane c = omega (arith, bounds c.args.o c.args.t _ _ c.requires (sym c.forward-z.ensures ∙ c.in-At.is) (sym c.forward-y.ensures ∙ c.in-At-y.is) (sym c.forward-x.ensures ∙ c.in-At-x.is))
+overflow_cast-plane c = omega (arith, bounds c.args.o c.args.t _ _ c.requires (sym c.forward-z.ensures ∙ c.in-Some.is) (sym c.forward-y.ensures ∙ c.in-Some-y.is) (sym c.forward-x.ensures ∙ c.in-Some-x.is))
 
 pub overflow_add-plane : goal.overflow_add-plane
-overflow_add-plane c = omega (arith, bounds c.args.o c.args.t _ _ c.requires (sym c.forward-z.ensures ∙ c.in-At.is) (sym c.forward-y.ensures ∙ c.in-At-y.is) (sym c.forward-x.ensures ∙ c.in-At-x.is))
+overflow_add-plane c = omega (arith, bounds c.args.o c.args.t _ _ c.requires (sym c.forward-z.ensures ∙ c.in-Some.is) (sym c.forward-y.ensures ∙ c.in-Some-y.is) (sym c.forward-x.ensures ∙ c.in-Some-x.is))
 
 pub overflow_mul-plane : goal.overflow_mul-plane
-overflow_mul-plane c = omega (arith, bounds c.args.o c.args.t _ _ c.requires (sym c.forward-z.ensures ∙ c.in-At.is) (sym c.forward-y.ensures ∙ c.in-At-y.is) (sym c.forward-x.ensures ∙ c.in-At-x.is))
+overflow_mul-plane c = omega (arith, bounds c.args.o c.args.t _ _ c.requires (sym c.forward-z.ensures ∙ c.in-Some.is) (sym c.forward-y.ensures ∙ c.in-Some-y.is) (sym c.forward-x.ensures ∙ c.in-Some-x.is))
 
 pub overflow_add-plane-2 : goal.overflow_add-plane-2
-overflow_add-plane-2 c = omega (arith, bounds c.args.o c.args.t _ _ c.requires (sym c.forward-z.ensures ∙ c.in-At.is) (sym c.forward-y.ensures ∙ c.in-At-y.is) (sym c.forward-x.ensures ∙ c.in-At-x.is))
+overflow_add-plane-2 c = omega (arith, bounds c.args.o c.args.t _ _ c.requires (sym c.forward-z.ensures ∙ c.in-Some.is) (sym c.forward-y.ensures ∙ c.in-Some-y.is) (sym c.forward-x.ensures ∙ c.in-Some-x.is))
 
 pub overflow_mul-place : goal.overflow_mul-place
-overflow_mul-place c = omega (arith, bounds c.args.o c.args.t _ _ c.requires (sym c.forward-z.ensures ∙ c.in-At.is) (sym c.forward-y.ensures ∙ c.in-At-y.is) (sym c.forward-x.ensures ∙ c.in-At-x.is))
+overflow_mul-place c = omega (arith, bounds c.args.o c.args.t _ _ c.requires (sym c.forward-z.ensures ∙ c.in-Some.is) (sym c.forward-y.ensures ∙ c.in-Some-y.is) (sym c.forward-x.ensures ∙ c.in-Some-x.is))
 
 pub overflow_add-place : goal.overflow_add-place
-overflow_add-place c = omega (arith, bounds c.args.o c.args.t _ _ c.requires (sym c.forward-z.ensures ∙ c.in-At.is) (sym c.forward-y.ensures ∙ c.in-At-y.is) (sym c.forward-x.ensures ∙ c.in-At-x.is))
+overflow_add-place c = omega (arith, bounds c.args.o c.args.t _ _ c.requires (sym c.forward-z.ensures ∙ c.in-Some.is) (sym c.forward-y.ensures ∙ c.in-Some-y.is) (sym c.forward-x.ensures ∙ c.in-Some-x.is))
 
 pub overflow_mul-place-2 : goal.overflow_mul-place-2
-overflow_mul-place-2 c = omega (arith, bounds c.args.o c.args.t _ _ c.requires (sym c.forward-z.ensures ∙ c.in-At.is) (sym c.forward-y.ensures ∙ c.in-At-y.is) (sym c.forward-x.ensures ∙ c.in-At-x.is), c.requires.inputs_max)
+overflow_mul-place-2 c = omega (arith, bounds c.args.o c.args.t _ _ c.requires (sym c.forward-z.ensures ∙ c.in-Some.is) (sym c.forward-y.ensures ∙ c.in-Some-y.is) (sym c.forward-x.ensures ∙ c.in-Some-x.is), c.requires.inputs_max)
 
 pub overflow_add-place-2 : goal.overflow_add-place-2
-overflow_add-place-2 c = omega (arith, bounds c.args.o c.args.t _ _ c.requires (sym c.forward-z.ensures ∙ c.in-At.is) (sym c.forward-y.ensures ∙ c.in-At-y.is) (sym c.forward-x.ensures ∙ c.in-At-x.is), c.requires.inputs_max)
+overflow_add-place-2 c = omega (arith, bounds c.args.o c.args.t _ _ c.requires (sym c.forward-z.ensures ∙ c.in-Some.is) (sym c.forward-y.ensures ∙ c.in-Some-y.is) (sym c.forward-x.ensures ∙ c.in-Some-x.is), c.requires.inputs_max)
 
 pub overflow_add-weight : goal.overflow_add-weight
 overflow_add-weight c = omega (arith, c.requires.weights_in, c.requires.weights_max)
 
 pub offset_bounds-input-place : goal.offset_bounds-input-place
-offset_bounds-input-place c = omega (arith, bounds c.args.o c.args.t _ _ c.requires (sym c.forward-z.ensures ∙ c.in-At.is) (sym c.forward-y.ensures ∙ c.in-At-y.is) (sym c.forward-x.ensures ∙ c.in-At-x.is), c.requires.inputs_max)
+offset_bounds-input-place c = omega (arith, bounds c.args.o c.args.t _ _ c.requires (sym c.forward-z.ensures ∙ c.in-Some.is) (sym c.forward-y.ensures ∙ c.in-Some-y.is) (sym c.forward-x.ensures ∙ c.in-Some-x.is), c.requires.inputs_max)
 
 pub bounds-input-place : goal.bounds-input-place
-bounds-input-place c = (bounds c.args.o c.args.t _ _ c.requires (sym c.forward-z.ensures ∙ c.in-At.is) (sym c.forward-y.ensures ∙ c.in-At-y.is) (sym c.forward-x.ensures ∙ c.in-At-x.is)).place
+bounds-input-place c = (bounds c.args.o c.args.t _ _ c.requires (sym c.forward-z.ensures ∙ c.in-Some.is) (sym c.forward-y.ensures ∙ c.in-Some-y.is) (sym c.forward-x.ensures ∙ c.in-Some-x.is)).place
 
 pub offset_bounds-kernel-weight : goal.offset_bounds-kernel-weight
 offset_bounds-kernel-weight c = omega (arith, c.requires.weights_in, c.requires.weights_max)
@@ -79,4 +79,4 @@ bounds-kernel-weight c = omega (arith, c.requires.weights_in)
 pub returns : goal.returns
 returns c =
     c.add_product.ensures
-    ∙ ap₂ add_tap zero_is (sym (inside c.args.input.now c.args.kernel.now c.args.o c.args.t (sym c.forward-z.ensures ∙ c.in-At.is) (sym c.forward-y.ensures ∙ c.in-At-y.is) (sym c.forward-x.ensures ∙ c.in-At-x.is)))
+    ∙ ap₂ add_tap zero_is (sym (inside c.args.input.now c.args.kernel.now c.args.o c.args.t (sym c.forward-z.ensures ∙ c.in-Some.is) (sym c.forward-y.ensures ∙ c.in-Some-y.is) (sym c.forward-x.ensures ∙ c.in-Some-x.is)))
