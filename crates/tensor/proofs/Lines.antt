@@ -1,9 +1,9 @@
 -- Rows of w elements each, one after another in a list: row number `line` begins at place line · w. Where a row lies, and what a loop that writes row after row
 -- keeps.
-use mathlib.Core.Path.{◌≡◌, sym, ap, ◌∙◌}
+use mathlib.Core.Path.{◌≡◌, refl, sym, ap, ◌∙◌}
 use mathlib.Core.List.{List, [], ◌∷◌, ◌++◌, append_assoc, append-nil}
 use Prim.Native.Nat.{ℕ, zero, suc, ◌+◌, ◌-◌, ◌*◌, ◌/◌, ◌≤◌, ◌<◌}
-use native.Mathlib.Nat.{add-zero, add-suc, zero-mul, add-mul, one-mul, add-sub_cancel_left, le-mul_of_pos_right}
+use native.Mathlib.Nat.{add-zero, add-suc, zero-mul, add-mul, one-mul, add-sub_cancel_left, le-mul_of_pos_right, div-mul-le_self}
 use native.Mathlib.Omega.{arith}
 use lib.ListN.{length, take, drop, length-append, length-drop}
 use lib.Seq.{take_at, length-take-le}
@@ -13,6 +13,14 @@ use Rattle.layer.proofs.Places.{part_within, place_div, div_within}
 
 pub line_start : (line : ℕ) {w : ℕ} → 1 ≤ w → line * w / w ≡ line
 line_start line {w} h = ap (λ (n : ℕ). n / w) (sym (add-zero (line * w))) ∙ place_div line h
+
+-- ---- a loop over the rows of a list by their numbers: the row of a turn ends inside the list, and the rows are the whole list
+pub row_end : (line w len : ℕ) → line < len / w → line * w + w ≤ len
+row_end line w len l =
+    omega (arith, part_within {a = line} {n = len / w} w l, div-mul-le_self len w)
+
+pub rows_end : (lines : ℕ) {w len : ℕ} → len ≡ lines * w → 1 ≤ w → len / w * w ≡ len
+rows_end lines {w} e h = rw (e, line_start lines {w = w} h)
 
 -- ---- a row that begins, at place j, inside a list of whole rows ends inside it
 pub record LineRoom (w line j len : ℕ) : Type 0 where
@@ -58,3 +66,13 @@ module _ {A : Type 0} where
           front = ap (take (j + w)) (sym (append_assoc (take j l) ys rest)) ∙ take_at (take j l ++ ys) rest (j + w) p ∙ (λ d. i.1.front d ++ e d) ∙ tabulate_more f j w;
         },
       )
+
+  -- the same for a loop over the rows by their numbers: the row's part is lent and handed back
+  pub rows_more : (w : ℕ) (f : ℕ → A) (line : ℕ) {n : ℕ} {l ys : List A} → Filled f n l (line * w) → ys ≡ tabulate (λ x. f (line * w + x)) w → line * w + w ≤ length l
+      → Filled f n (take (line * w) l ++ (ys ++ drop (line * w + w - line * w) (drop (line * w) l))) ((line + 1) * w)
+  rows_more w f line {n} {l} {ys} i h m =
+      let rest = drop (line * w + w - line * w) (drop (line * w) l) in
+      let k : length (take (line * w) l ++ (ys ++ rest)) ≡ length l =
+          simp (length-append, length-drop) (omega (arith, length-take-le (line * w) l (omega arith), ap length h, tabulate_length (λ x. f (line * w + x)) w)) in
+      let r = lines_more w f line rest (refl, i) h k m in
+      rw (← r.0) r.1

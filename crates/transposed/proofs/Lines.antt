@@ -1,29 +1,33 @@
 -- One tap of a kernel row over one row of the input: it reaches outputs a stride apart, and the input positions that it reaches follow one another.
-use mathlib.Core.Path.{◌≡◌, refl, sym}
+use mathlib.Core.Path.{◌≡◌, refl, sym, ◌∙◌}
 use mathlib.Core.Bool.{Bool, true, false, cond, ◌&&◌, ◌||◌}
 use mathlib.Core.List.{List, ◌++◌}
 use Prim.Native.Nat.{ℕ, ◌+◌, ◌-◌, ◌*◌, ◌/◌, ◌%◌, ◌≤◌, ◌<◌}
-use native.Mathlib.Nat.{le_refl, add-zero, mul-le-mul_right, mul-add-div_right, mul-add-mod_self_right}
+use native.Mathlib.Nat.{le_refl, add-zero, mul-le-mul, mul-le-mul_right, mul-add-div_right, mul-add-mod_self_right}
 use native.Mathlib.Decide.{dec_lt}
 use native.Mathlib.Omega.{arith}
 use borrow.Author.Tests.{leb-true, leb-false, eqb-true, lt-ltb, le-ltb, le-leb, lt-leb}
 use lib.Dec.{leb, ltb, eqb}
-use lib.ListN.{length, take, drop, length-drop}
-use lib.Seq.{get_or-drop, take_all}
+use lib.ListN.{length, take, drop, length-append, length-drop}
+use lib.Seq.{get_or-drop, take_all, length-take-le}
 use lib.Ieee.{Float, nan}
 use Rattle.layer.proofs.Tests.{or_other, or_neither}
 use Rattle.sizes.specs.Size.{ceil_div}
 use Rattle.taps.specs.declared.Tap.{Tap}
 use Rattle.taps.specs.declared.Tap.TheVariants.{At, Outside}
 use Rattle.taps.specs.Joins.{position_by, reach_of}
-use Rattle.sizes.proofs.Division.{ceil_le}
+use Rattle.sizes.proofs.Division.{ceil_le, ceil_self}
 use Rattle.taps.proofs.Joins.{reach_finds, at_finds}
 use Rattle.tensor.specs.Table.{read}
 use Rattle.tensor.proofs.Table.{part_length}
-use Rattle.sums.specs.Taps.{none, pair}
+use Rattle.sums.specs.Taps.{Factors, none, pair}
 use Rattle.rows.specs.Rows.{Summed, spread}
-use Rattle.rows.proofs.Rows.{summed_part, summed_away, summed_same}
+use Rattle.rows.proofs.Rows.{summed_part, summed_away, summed_same, summed_more}
 use Rattle.transposed.specs.Rows.{tap_in, row_tap}
+
+-- a list with a part of it handed back keeps its length
+part_back : (l ys : List Float) (a n : ℕ) → a + n ≡ length l → length ys ≡ n → length (take a l ++ (ys ++ drop n (drop a l))) ≡ length l
+part_back l ys a n h e = simp (length-append, length-drop) (omega (arith, length-take-le a l (omega arith)))
 
 -- what is left where neither of the two lengths is too small
 pub both_left : (a b c d : ℕ) → leb a b || leb c d ≡ false → (b ≤ a) × (d ≤ c)
@@ -32,6 +36,17 @@ both_left a b c d h = let n = or_neither (leb a b) (leb c d) h in (omega (arith,
 -- the first input position whose output is not before the row's start
 pub cover : (begin back stride : ℕ) {first : ℕ} → 1 ≤ stride → first ≡ ceil_div (begin - back) stride → begin ≤ first * stride + back
 cover begin back stride {first} s e = let h = (ceil_le (begin - back) first s).0 (rw e (le_refl _)) in omega arith
+
+-- its numbers are small
+pub record TapBounds (begin back stride first : ℕ) : Type 0 where
+  pub first_max : first ≤ 1024
+  pub product_max : first * stride ≤ 16384
+  pub covers : begin ≤ first * stride + back
+
+pub tap_bounds : (begin back stride : ℕ) {first : ℕ} → 1 ≤ stride → stride ≤ 16 → begin ≤ 1024 → first ≡ ceil_div (begin - back) stride → TapBounds begin back stride first
+tap_bounds begin back stride {first} s m b e =
+    let f : first ≤ 1024 = omega (arith, ceil_self (begin - back) s) in
+    record { first_max = f; product_max = mul-le-mul {n₂ = 1024} {m₂ = 16} f m; covers = cover begin back stride s e }
 
 -- tap k of a kernel row more for the first n outputs of a row
 abbrev Tapped : List Float → List Float → ℕ → ℕ → ℕ → ℕ → ℕ → List Float → List Float → Type 0
@@ -74,11 +89,15 @@ module _ (row weights : List Float) (begin d stride k : ℕ) {first lo : ℕ} (s
   -- so the values from `first` on, spread over the outputs from lo on, are this tap for every output of the row
   pub tap_spread : {l ys : List Float} → lo ≤ length l → let n = length l - lo in
       Summed (spread (take (length row - first) (drop first row)) (read weights k) stride) 1 (length (take n (drop lo l))) (take n (drop lo l)) ys
-      → length (take lo l ++ (ys ++ drop n (drop lo l))) ≡ length l
       → Tapped row weights begin d stride k (length l) l (take lo l ++ (ys ++ drop n (drop lo l)))
-  tap_spread {l} {ys} h i e =
+  tap_spread {l} {ys} h i =
       let n = length l - lo in
       let z : lo + n ≡ length l = omega arith in
       let j = rw (part_length l lo n (omega arith), take_all (length row - first) (drop first row) (omega (arith, length-drop first row))) at i in
       let m = summed_same {others = λ x t. row_tap row weights (lo + x + begin) d stride (k + t)} j (λ x t p q. let z : t ≡ 0 = omega arith in rw (z, add-zero k) (spread_tap x)) in
-      rw z at (summed_part _ 1 lo n (unreached lo (λ x i p a b m. omega arith)) (omega arith) m e)
+      rw z at (summed_part _ 1 lo n (unreached lo (λ x i p a b m. omega arith)) (omega arith) m (part_back l ys lo n z (i.kept ∙ part_length l lo n (omega arith))))
+
+-- one tap more for every output of a row
+pub tapped_more : (taps : ℕ → ℕ → Factors) (k : ℕ) {before l o : List Float} → Summed taps k (length before) before l → Summed (λ x j. taps x (k + j)) 1 (length l) l o
+    → Summed taps (k + 1) (length before) before o
+tapped_more taps k i j = summed_more taps k 1 i (rw i.kept at j)

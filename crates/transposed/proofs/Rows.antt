@@ -17,8 +17,9 @@ use Rattle.layer.proofs.Places.{place_div, place_mod}
 use Rattle.sums.specs.Taps.{Place, at, none, pair, tap_at}
 use Rattle.rows.specs.Rows.{Summed}
 use Rattle.rows.proofs.Rows.{summed_away, summed_same}
+use Rattle.call.proofs.Planes.{line_flat}
 use Rattle.transposed.specs.declared.FirstTap.{FirstTap}
-use Rattle.transposed.specs.Rows.{meet, tap_in, row_tap, row_of, place_from}
+use Rattle.transposed.specs.Rows.{meet, tap_in, row_tap, row_of, place_from, row_taps}
 use Rattle.transposed.proofs.Bounds.{RowBounds}
 
 pub row_of_length : (t : List Float) (row : ℕ) {width : ℕ} → row * width + width ≤ length t → length (row_of t row width) ≡ width
@@ -44,15 +45,15 @@ tap_none input kernel Outside f = refl
 -- ---- kernel row k of channel i
 module _ (s : Shape) (input kernel : List Float) (f : FirstTap) (i : ℕ) {k : ℕ} (h : k < kernel_rows s) where
   -- its tap j, by the kernel row's own numbers
-  place_row : (column : ℕ) {j : ℕ} → j < s.x.kernel → place_from s f column ((i * kernel_rows s + k) * s.x.kernel + j)
+  place_row : (column : ℕ) {j : ℕ} → j < s.x.kernel → place_from s f column (i * (kernel_rows s * s.x.kernel) + (k * s.x.kernel + j))
       ≡ meet (on_rows backward s f.row k) (reach_of s.x.input s.x.dilation s.x.stride column j)
       (λ y x. at (((f.plane + i) * input_rows s + y) * s.x.input + x) (((f.weight + i * s.o) * kernel_rows s + k) * s.x.kernel + j))
   unfolding place_from
-  place_row column l = rw (place_div (i * kernel_rows s + k) l, place_mod (i * kernel_rows s + k) l, place_div i h, place_mod i h)
+  place_row column {j} l = rw (line_flat i (kernel_rows s) s.x.kernel k j, place_div (i * kernel_rows s + k) l, place_mod (i * kernel_rows s + k) l, place_div i h, place_mod i h)
 
   -- where it reaches no row of the input it adds nothing to a row of outputs
   pub row_away : {n : ℕ} {l : List Float} → Outside ≡ on_rows backward s f.row k
-      → Summed (λ x j. tap_at input kernel (place_from s f (x + s.x.begin) ((i * kernel_rows s + k) * s.x.kernel + j))) s.x.kernel n l l
+      → Summed (row_taps s input kernel f i k) s.x.kernel n l l
   row_away e = summed_away (λ x j p q. rw (place_row (x + s.x.begin) q, ← e) (tap_none input kernel _ _))
 
   -- where it reaches row y of the input, with the parts of the two tensors at hand
@@ -62,7 +63,7 @@ module _ (s : Shape) (input kernel : List Float) (f : FirstTap) (i : ℕ) {k : �
       → weights ≡ row_of kernel ((f.weight + i * s.o) * kernel_rows s + k) s.x.kernel
       → RowBounds s f i k y (kernel_rows s) (input_rows s) (length input) (length kernel)
       → Summed (λ x j. row_tap row weights (x + s.x.begin) s.x.dilation s.x.stride j) (length weights) n l m
-      → Summed (λ x j. tap_at input kernel (place_from s f (x + s.x.begin) ((i * kernel_rows s + k) * s.x.kernel + j))) s.x.kernel n l m
+      → Summed (row_taps s input kernel f i k) s.x.kernel n l m
   unfolding row_tap
   row_taps_lem y row weights e er ew b m =
       summed_same (rw (er, ew, row_of_length kernel _ b.part) at m) (λ x j p q. rw (place_row (x + s.x.begin) q, ← e, row_of_length input _ b.row, row_of_read kernel _ _ j q)

@@ -7,7 +7,7 @@ use Rattle.taps.specs.Joins.{reach_of, backward}
 use Rattle.shape.specs.declared.Shape.{Shape}
 use Rattle.shape.specs.Volumes.{input_rows, kernel_rows, out_rows, on_rows}
 use Rattle.tensor.specs.Table.{read}
-use Rattle.sums.specs.Taps.{Place, missing, at, Factors, none, pair}
+use Rattle.sums.specs.Taps.{Place, missing, at, Factors, none, pair, tap_at}
 use Rattle.transposed.specs.declared.FirstTap.{FirstTap}
 
 -- the first taps of a line: their plane of the input and of the kernel, and the line's row in its plane
@@ -34,6 +34,16 @@ place_from s f column t =
     (λ y x. at
     (((f.plane + t / s.x.kernel / kernel_rows s) * input_rows s + y) * s.x.input + x)
     (((f.weight + t / s.x.kernel / kernel_rows s * s.o) * kernel_rows s + t / s.x.kernel % kernel_rows s) * s.x.kernel + t % s.x.kernel))
+
+-- the taps of a line of outputs by their numbers, from its first taps on: all, those of channel i, and those of kernel row k of it
+abbrev pub line_taps : Shape → List Float → List Float → FirstTap → ℕ → ℕ → Factors
+line_taps s input kernel f x t = tap_at input kernel (place_from s f (x + s.x.begin) t)
+
+abbrev pub channel_taps : Shape → List Float → List Float → FirstTap → ℕ → ℕ → ℕ → Factors
+channel_taps s input kernel f i x t = line_taps s input kernel f x (i * (kernel_rows s * s.x.kernel) + t)
+
+abbrev pub row_taps : Shape → List Float → List Float → FirstTap → ℕ → ℕ → ℕ → ℕ → Factors
+row_taps s input kernel f i k x j = channel_taps s input kernel f i x (k * s.x.kernel + j)
 
 -- one kernel row over one row of the input
 unfoldable pub tap_in : Tap → (ℕ → Factors) → Factors

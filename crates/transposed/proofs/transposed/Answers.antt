@@ -7,10 +7,15 @@ use Rattle.transposed.specs.Transposed.{place_of}
 use Rattle.transposed.proofs.Places.{in_range_lem}
 use Rattle.transposed.proofs.transposed.Goals as goal
 
+pub invariant_of-tensors : goal.invariant_of-tensors
+invariant_of-tensors c =
+    let t = fitting Transposed refl _ _ _ _ _ (sym c.check_sum-verdict.ensures ∙ c.in-Run.is) in
+    record { fitting = t.0 }
+
 pub fill-requires : goal.fill-requires
 fill-requires c =
     let t = fitting Transposed refl _ _ _ _ _ (sym c.check_sum-verdict.ensures ∙ c.in-Run.is) in
-    record { fitting = t.0; output_len = t.1 }
+    record { output_len = t.1 }
 
 pub returns-in-Refuse : goal.returns-in-Refuse
 returns-in-Refuse c =
