@@ -1,36 +1,27 @@
 -- Laws of the modulus of an index: the product of the last of five dimensions, and its bounds.
-use mathlib.Core.Path.{◌≡◌, refl, ap}
+use mathlib.Core.Path.{◌≡◌, sym, ap, ◌∙◌}
 use mathlib.Core.Bool.{Bool, true, false, cond}
-use mathlib.Core.List.{List, [], ◌∷◌, ◌++◌}
+use mathlib.Core.List.{List, [], ◌∷◌}
 use Prim.Native.Nat.{ℕ, zero, suc, ◌*◌, ◌≤◌}
-use native.Mathlib.Nat.{mul-one, mul_assoc, mul_comm, one-le-mul, le-mul_of_pos_right, mul-le-mul_right, le_trans}
+use native.Mathlib.Nat.{mul-one, one-mul, mul_assoc, mul_comm, one-le-mul, le-mul_of_pos_right, mul-le-mul_right, le_trans}
 use native.Mathlib.Omega.{arith}
 use lib.ListN.{drop}
 use lib.IntN.{ℤ}
 use Rattle.layer.specs.Axes.{uses_y, uses_z}
 use Rattle.layer.specs.Limits.{rank}
-use Rattle.counts.specs.Index.{dimensions, dimensions_before, product, modulus, product_from}
+use Rattle.counts.specs.Index.{dimensions, dimensions_before, product, modulus}
+use Rattle.counts.specs.Counts.{capped}
+use Rattle.counts.proofs.Capped.{capped_left}
+use Rattle.std.specs.List.{fold}
 
--- 1 after the last dimension changes no product
-product_one : (ds : List ℕ) → product (ds ++ (1 ∷ [])) ≡ product ds
-product_one [] = refl
-product_one (d ∷ ds) = ap (λ (p : ℕ). d * p) (product_one ds)
+-- the product of a list, from the first on and held at the cap
+fold_from : (a : ℕ) (ds : List ℕ) → fold (λ p d. capped (p * d)) (capped a) ds ≡ capped (a * product ds)
+fold_from a [] = ap capped (sym (mul-one a))
+fold_from a (d ∷ ds) = ap (λ (n : ℕ). fold (λ p d. capped (p * d)) n ds) (capped_left a d) ∙ fold_from (a * d) ds ∙ ap capped (mul_assoc a d (product ds))
 
-pub one_after : (k : ℕ) (ds : List ℕ) → product (drop k (ds ++ (1 ∷ []))) ≡ product (drop k ds)
-one_after zero ds = product_one ds
-one_after (suc zero) [] = refl
-one_after (suc (suc k)) [] = refl
-one_after (suc k) (d ∷ ds) = one_after k ds
-
--- past the last
-pub none_left : (k a b c d e : ℕ) → 5 ≤ k → 1 ≡ product_from k a b c d e
-none_left zero a b c d e h = absurd (omega arith)
-none_left (suc zero) a b c d e h = absurd (omega arith)
-none_left (suc (suc zero)) a b c d e h = absurd (omega arith)
-none_left (suc (suc (suc zero))) a b c d e h = absurd (omega arith)
-none_left (suc (suc (suc (suc zero)))) a b c d e h = absurd (omega arith)
-none_left (suc (suc (suc (suc (suc zero))))) a b c d e h = refl
-none_left (suc (suc (suc (suc (suc (suc k)))))) a b c d e h = refl
+pub fold_capped : (ds : List ℕ) → fold (λ p d. capped (p * d)) 1 ds ≡ capped (product ds)
+unfolding capped
+fold_capped ds = fold_from 1 ds ∙ ap capped (one-mul (product ds))
 
 -- ---- without its first k, a list of dimensions of at least 1 has a product from 1 up to that of all
 abbrev AllPos : List ℕ → Type 0

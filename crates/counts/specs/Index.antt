@@ -20,7 +20,3 @@ product (d ∷ ds) = d * product ds
 -- "the product of the dimensions from `axis` on"
 unfoldable pub modulus : ℕ → ℤ → ℕ → ℕ → ℕ → ℕ → ℕ → ℕ
 modulus axes axis n c z y x = product (drop (dimensions_before (rank axes) axis) (dimensions axes n c z y x))
-
--- ---- for the code: the product of five dimensions without the first k
-abbrev pub product_from : ℕ → ℕ → ℕ → ℕ → ℕ → ℕ → ℕ
-product_from k a b c d e = product (drop k (a ∷ b ∷ c ∷ d ∷ e ∷ []))

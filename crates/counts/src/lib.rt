@@ -2,19 +2,20 @@
 // counted modulo.
 #![tactic(auto)]
 
-ghost use Rattle.std.specs.Prelude.{◌*◌, ◌/◌, ◌%◌, ◌≡◌};
+ghost use Rattle.std.specs.Prelude.{◌*◌, ◌/◌, ◌%◌, ◌≡◌, drop};
 ghost use Rattle.counts.specs.Counts.{capped};
-ghost use Rattle.counts.specs.Index.{dimensions_before, product_from, modulus};
+ghost use Rattle.counts.specs.Index.{dimensions_before, product, modulus};
 
 use layer::{uses_y, uses_z};
 
 // The largest count that is told apart from larger ones: one past the limit of 16,777,216.
 pub const CAP: usize = 16777217;
 
+#[tactic(auto, unfolding(crate::specs::Counts::capped))]
 fn cap(n: usize) -> usize
     ensures { result ≡ capped n }
 {
-    if n <= CAP { n } else { CAP }
+    n.min(CAP)
 }
 
 // A product of any two numbers, held at the cap.
@@ -40,10 +41,7 @@ pub fn quotient(a: usize, b: usize) -> usize
     if a < b {
         return 0;
     }
-    if b == 0 {
-        return 0;
-    }
-    a / b
+    a.checked_div(b).unwrap_or(0)
 }
 
 // a % b, and a where b is 0.
@@ -53,10 +51,7 @@ pub fn remainder(a: usize, b: usize) -> usize
     if a < b {
         return a;
     }
-    if b == 0 {
-        return a;
-    }
-    a % b
+    a.checked_rem(b).unwrap_or(a)
 }
 
 // ---- the index of a pooled element
@@ -65,47 +60,36 @@ pub fn remainder(a: usize, b: usize) -> usize
 fn dimensions_before(r: usize, axis: i32) -> usize
     ensures { result ≡ dimensions_before r axis }
 {
+    let distance = axis.unsigned_abs() as usize;
     if axis < 0 {
-        let after = (-1 - axis) as usize;
-        if r <= after {
-            return 0;
-        }
-        return r - after - 1;
+        r.saturating_sub(distance)
+    } else {
+        distance
     }
-    axis as usize
 }
 
-// The product of five dimensions without the first k, held at the cap.
-fn product_from(k: usize, a: usize, b: usize, c: usize, d: usize, e: usize) -> usize
-    ensures { result ≡ capped (product_from k a b c d e) }
+// The product of some dimensions without the first k, held at the cap.
+fn product_from(dimensions: &[u32], k: usize) -> usize
+    ensures { result ≡ capped (product (drop k dimensions.now)) }
 {
-    let one = cap(e);
-    let two = times(d, e);
-    let three = times(c, two);
-    let four = times(b, three);
-    let five = times(a, four);
-    match k {
-        0 => five,
-        1 => four,
-        2 => three,
-        3 => two,
-        4 => one,
-        _ => 1,
-    }
+    dimensions
+        .iter()
+        .copied()
+        .skip(k)
+        .fold(1, |product, d| times(product, d as usize))
 }
 
-// What places are counted modulo, held at the cap. With fewer axes the dimensions are fewer; 1 after the last changes no product.
+// What places are counted modulo, held at the cap.
+#[tactic(auto, unfolding(crate::specs::Index::modulus))]
 pub fn modulus_of(axes: u32, axis: i32, n: u32, c: u32, z: u32, y: u32, x: u32) -> usize
     ensures { result ≡ capped (modulus axes axis n c z y x) }
 {
-    let k = dimensions_before(axes as usize + 2, axis);
-    let images = n as usize;
-    let channels = c as usize;
+    let before = dimensions_before(axes as usize + 2, axis);
     if uses_z(axes) {
-        return product_from(k, images, channels, z as usize, y as usize, x as usize);
+        return product_from(&[n, c, z, y, x], before);
     }
     if uses_y(axes) {
-        return product_from(k, images, channels, y as usize, x as usize, 1);
+        return product_from(&[n, c, y, x], before);
     }
-    product_from(k, images, channels, x as usize, 1, 1)
+    product_from(&[n, c, x], before)
 }

@@ -16,27 +16,11 @@ use Rattle.tensor.proofs.Table.{tabulate_length, tabulate_get}
 use Rattle.sums.specs.Taps.{Factors, none, pair, add_tap, sum_from}
 use Rattle.sums.proofs.Sums.{sum_start, sum_more, sum_append, sum_same, sum_none}
 use Rattle.sums.proofs.Outside.{zero_from_zero, add_outside}
-use Rattle.rows.specs.Rows.{Summed, across}
+use Rattle.rows.specs.Rows.{Summed}
 
 -- the sum of one tap
 pub sum_one : (start : Float) (taps : ℕ → Factors) → add_tap start (taps 0) ≡ sum_from start taps 1
 sum_one start taps = sym (sum_more start taps 0 ∙ ap (λ (s : Float). add_tap s (taps 0)) (sum_start start taps))
-
--- the first tap, and the first three taps, of a row of values under a kernel row, at the code's places
-module _ (values weights : List Float) (stride dilation : ℕ) (sum : Float) (x : ℕ) where
-  pub one_tap : add_tap sum (pair (read values (x * stride)) (read weights 0)) ≡ sum_from sum (across values weights stride dilation x) 1
-  one_tap =
-      let e : x * stride ≡ x * stride + 0 * dilation = omega arith in
-      ap (λ (n : ℕ). add_tap sum (pair (read values n) (read weights 0))) e ∙ sum_one sum (across values weights stride dilation x)
-
-  pub three_taps : add_tap (add_tap (add_tap sum (pair (read values (x * stride)) (read weights 0))) (pair (read values (x * stride + dilation)) (read weights 1))) (pair (read values (x * stride + dilation + dilation)) (read weights 2))
-      ≡ sum_from sum (across values weights stride dilation x) 3
-  three_taps =
-      let t = across values weights stride dilation x in
-      let e : x * stride + dilation ≡ x * stride + 1 * dilation = omega arith in
-      let f : x * stride + dilation + dilation ≡ x * stride + 2 * dilation = omega arith in
-      (λ d. add_tap (add_tap (one_tap d) (pair (read values (e d)) (read weights 1))) (pair (read values (f d)) (read weights 2)))
-      ∙ ap (λ (s : Float). add_tap s (t 2)) (sym (sum_more sum t 1)) ∙ sym (sum_more sum t 2)
 
 -- ---- more sums of a row
 module _ (taps : ℕ → ℕ → Factors) (k : ℕ) where

@@ -3,7 +3,7 @@ use mathlib.Core.Path.{◌≡◌, refl, sym, ap, ◌∙◌}
 use mathlib.Core.List.{List}
 use mathlib.Core.Bool.{Bool, true, false, ◌&&◌, cond}
 use Prim.Native.Nat.{ℕ, ◌+◌, ◌-◌, ◌*◌, ◌/◌, ◌%◌, ◌≤◌, ◌<◌, min}
-use native.Mathlib.Nat.{mul-mod_left, mul-div_left, le-div_iff_mul-le, div-add-mod', suc-mul, sub-zero}
+use native.Mathlib.Nat.{mul-mod_left, mul-div_left, le-div_iff_mul-le, div-add-mod', suc-mul}
 use native.Mathlib.Numerals.{add-one}
 use native.Mathlib.Decide.{dec_le, dec_lt}
 use native.Mathlib.Omega.{arith}
@@ -61,18 +61,15 @@ spread_no values weight l = summed_skip _ 1 (omega arith) (summed_none _ 1 l) (�
 
 -- ---- the first n values, which are those that find a sum
 module _ (values : List Float) where
-  first_length : (n : ℕ) → n ≤ length values → length (take (n - 0) values) ≡ n
-  first_length n h = rw (sub-zero n) (length-take-le n values h)
-
-  pub spread_within : (sums stride : ℕ) {n : ℕ} → n ≡ min (length values) (ceil_div sums stride) → (m : ℕ) → m < length (take (n - 0) values) → m * stride < sums
+  pub spread_within : (sums stride : ℕ) {n : ℕ} → n ≡ min (length values) (ceil_div sums stride) → (m : ℕ) → m < length (take n values) → m * stride < sums
   spread_within sums stride {n} e m h =
-      let l : m < n = rw (first_length n (omega arith)) at h in
+      let l : m < n = rw (length-take-le n values (omega arith)) at h in
       let c : m < ceil_div sums stride = omega arith in
       (lt_ceil sums m (stride_some sums stride c)).0 c
 
   module _ (weight : Float) (stride : ℕ) where
-    same : (sums : ℕ) {n : ℕ} → n ≡ min (length values) (ceil_div sums stride) → (x t : ℕ) → x < sums → 1 ≤ stride → spread (take (n - 0) values) weight stride x t ≡ spread values weight stride x t
-    same sums {n} e x t h s = rw (first_length n (omega arith), sub-zero n) (go (dec_lt (x / stride) (length values)))
+    same : (sums : ℕ) {n : ℕ} → n ≡ min (length values) (ceil_div sums stride) → (x t : ℕ) → x < sums → 1 ≤ stride → spread (take n values) weight stride x t ≡ spread values weight stride x t
+    same sums {n} e x t h s = rw (length-take-le n values (omega arith)) (go (dec_lt (x / stride) (length values)))
       where
         reached : x / stride < ceil_div sums stride
         reached = (lt_ceil sums (x / stride) s).1 (omega (arith, div-add-mod' x stride))
@@ -91,6 +88,6 @@ module _ (values : List Float) where
             let j : length values ≤ x / stride = omega arith in
             rw (le-ltb (x / stride) n k, le-ltb (x / stride) (length values) j) (both (ltb 0 stride && eqb (x % stride) 0))
 
-    pub spread_part : {n : ℕ} {l m : List Float} → n ≡ min (length values) (ceil_div (length l) stride) → 1 ≤ stride → Summed (spread (take (n - 0) values) weight stride) 1 (length l) l m
+    pub spread_part : {n : ℕ} {l m : List Float} → n ≡ min (length values) (ceil_div (length l) stride) → 1 ≤ stride → Summed (spread (take n values) weight stride) 1 (length l) l m
         → Summed (spread values weight stride) 1 (length l) l m
     spread_part {n} {l} e s i = summed_same i (λ x t p q. same (length l) e x t p s)

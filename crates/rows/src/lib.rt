@@ -8,135 +8,90 @@ ghost use Rattle.tensor.specs.Table.{read, plus_zero, tabulate};
 ghost use Rattle.sums.specs.Taps.{pair, add_tap, sum_from};
 ghost use Rattle.rows.specs.Rows.{Summed, across, held, spread};
 
-use sizes::{ceil_div, least, minus};
+use sizes::ceil_div;
 use sums::add_product;
-
-// ---- how many
-
-// The distance from the first of some taps to the last, or `most` where it is more.
-fn reach(taps: usize, dilation: usize, most: usize) -> usize
-    ensures { result ≡ min ((taps - 1) * dilation) most }
-{
-    let after = minus(taps, 1);
-    if dilation == 1 {
-        return least(after, most);
-    }
-    if dilation == 0 {
-        return 0;
-    }
-    if most / dilation < after {
-        return most;
-    }
-    after * dilation
-}
-
-// How many of the sums have all of their taps among the values.
-fn sums_held(sums: usize, values: usize, taps: usize, stride: usize, dilation: usize) -> usize
-    ensures { result ≡ held sums values taps stride dilation }
-{
-    let last = reach(taps, dilation, values);
-    least(sums, ceil_div(values - last, stride))
-}
 
 // ---- convolution: a row of values under a kernel row
 
-// One tap more for each sum.
-fn add_one(sums: &mut [f32], values: &[f32], weights: &[f32], stride: usize, dilation: usize)
-    requires { (1 ≤ length weights.now) × ((x : ℕ) → x < length sums.old → x * stride < length values.now) }
-    ensures { Summed (across values.now weights.now stride dilation) 1 (length sums.old) sums.old sums.new }
-{
-    let weight = weights[0];
-    let mut x = 0;
-    while x < sums.len() {
-        sums[x] = add_product(sums[x], values[x * stride], weight);
-        x += 1;
-    }
-}
-
-// Three products, one after another.
-fn add_products(sum: f32, a: f32, u: f32, b: f32, v: f32, c: f32, w: f32) -> f32
-    ensures { result ≡ add_tap (add_tap (add_tap sum (pair a u)) (pair b v)) (pair c w) }
-{
-    add_product(add_product(add_product(sum, a, u), b, v), c, w)
-}
-
-// Three taps more for each sum, in one pass: the sums are read and written once.
-fn add_three(sums: &mut [f32], values: &[f32], weights: &[f32], stride: usize, dilation: usize)
-    requires { (3 ≤ length weights.now) × ((x : ℕ) → x < length sums.old → x * stride + 2 * dilation < length values.now) }
-    ensures { Summed (across values.now weights.now stride dilation) 3 (length sums.old) sums.old sums.new }
-{
-    let u = weights[0];
-    let v = weights[1];
-    let w = weights[2];
-    let mut x = 0;
-    while x < sums.len() {
-        let a = x * stride;
-        let b = a + dilation;
-        let c = b + dilation;
-        sums[x] = add_products(sums[x], values[a], u, values[b], v, values[c], w);
-        x += 1;
-    }
-}
-
-// The next taps of each sum from tap k on, three where as many are left, else one; tells how many.
-fn add_some(
-    sums: &mut [f32],
-    values: &[f32],
-    weights: &[f32],
+// A row of values under a kernel row: tap k of the sum at x has the value at x * stride + k * dilation, and weight k.
+#[derive(Clone, Copy)]
+struct Under<'a> {
+    values: &'a [f32],
+    weights: &'a [f32],
     stride: usize,
     dilation: usize,
-    k: usize,
-) -> usize
-    requires held { (k < length weights.now) × (length sums.old ≤ held (length sums.old) (length values.now) (length weights.now) stride dilation) }
-    requires sums_1 { 1 ≤ length sums.old }
-    ensures { (1 ≤ result) × ((k + result ≤ length weights.now) × Summed (λ x j. across values.now weights.now stride dilation x (k + j)) result (length sums.old) sums.old sums.new) }
-{
-    let from = k * dilation;
-    if 3 <= weights.len() - k {
-        add_three(sums, &values[from..], &weights[k..], stride, dilation);
-        return 3;
-    }
-    add_one(sums, &values[from..], &weights[k..], stride, dilation);
-    1
 }
 
-// All taps of one sum, whose first has the value at `from`.
-fn tap_sum(sum: f32, values: &[f32], weights: &[f32], from: usize, dilation: usize) -> f32
-    requires { (k : ℕ) → k < length weights.now → from + k * dilation < length values.now }
-    ensures { result ≡ sum_from sum (λ k. pair (read values.now (from + k * dilation)) (read weights.now k)) (length weights.now) }
-{
-    let mut total = sum;
-    let mut k = 0;
-    while k < weights.len() {
-        total = add_product(total, values[from + k * dilation], weights[k]);
-        k += 1;
+impl<'a> Under<'a> {
+    // How many of this many sums have all of their taps among the values.
+    fn held(&self, sums: usize) -> usize
+        ensures { result ≡ held sums (length self.now.values.now) (length self.now.weights.now) self.now.stride self.now.dilation }
+    {
+        let last = self
+            .weights
+            .len()
+            .saturating_sub(1)
+            .saturating_mul(self.dilation);
+        sums.min(ceil_div(self.values.len().saturating_sub(last), self.stride))
     }
-    total
-}
 
-// All taps of each sum, one sum after another.
-fn add_each(sums: &mut [f32], values: &[f32], weights: &[f32], stride: usize, dilation: usize)
-    requires { length sums.old ≤ held (length sums.old) (length values.now) (length weights.now) stride dilation }
-    ensures { Summed (across values.now weights.now stride dilation) (length weights.now) (length sums.old) sums.old sums.new }
-{
-    let mut x = 0;
-    while x < sums.len() {
-        sums[x] = tap_sum(sums[x], values, weights, x * stride, dilation);
-        x += 1;
+    // All taps of the sum at x.
+    fn sum_at(&self, sum: f32, x: usize) -> f32
+        requires { (k : ℕ) → k < length self.now.weights.now → x * self.now.stride + k * self.now.dilation < length self.now.values.now }
+        ensures { result ≡ sum_from sum (across self.now.values.now self.now.weights.now self.now.stride self.now.dilation x) (length self.now.weights.now) }
+    {
+        let mut total = sum;
+        for (k, weight) in self.weights.iter().enumerate() {
+            let value = self.values[x * self.stride + k * self.dilation];
+            total = add_product(total, value, *weight);
+        }
+        total
     }
-}
 
-// All taps of each sum.
-fn add_all(sums: &mut [f32], values: &[f32], weights: &[f32], stride: usize, dilation: usize)
-    requires { length sums.old ≤ held (length sums.old) (length values.now) (length weights.now) stride dilation }
-    ensures { Summed (across values.now weights.now stride dilation) (length weights.now) (length sums.old) sums.old sums.new }
-{
-    if sums.len() == 0 {
-        return;
+    // All taps of each sum, one sum after another.
+    fn add_each(&self, sums: &mut [f32])
+        requires { (x k : ℕ) → x < length sums.old → k < length self.now.weights.now → x * self.now.stride + k * self.now.dilation < length self.now.values.now }
+        ensures { Summed (across self.now.values.now self.now.weights.now self.now.stride self.now.dilation) (length self.now.weights.now) (length sums.old) sums.old sums.new }
+    {
+        for (x, sum) in sums.iter_mut().enumerate() {
+            *sum = self.sum_at(*sum, x);
+        }
     }
-    let mut k = 0;
-    while k < weights.len() {
-        k += add_some(sums, values, weights, stride, dilation, k);
+
+    // N taps of each sum, from tap k on. Their weights are copied, so that the compiler sees that no sum overlaps them.
+    fn add_some<const N: usize>(&self, sums: &mut [f32], k: usize)
+        requires taps { k + N ≤ length self.now.weights.now }
+        requires first { k * self.now.dilation ≤ length self.now.values.now }
+        requires held { (x j : ℕ) → x < length sums.old → j < length self.now.weights.now → x * self.now.stride + j * self.now.dilation < length self.now.values.now }
+        ensures { Summed (λ x j. across self.now.values.now self.now.weights.now self.now.stride self.now.dilation x (k + j)) N (length sums.old) sums.old sums.new }
+    {
+        let mut weights = [0.0; N];
+        weights.copy_from_slice(&self.weights[k..k + N]);
+        let part = Under {
+            values: &self.values[k * self.dilation..],
+            weights: &weights,
+            ..*self
+        };
+        part.add_each(sums);
+    }
+
+    // The same, three taps at a time where as many are left, else one: each time the sums are read and written once. A `for` has one step, so that it would
+    // take two loops, one after the other, and the place where the first ends.
+    fn add_all(&self, sums: &mut [f32])
+        requires some { 1 ≤ length sums.old }
+        requires held { (x k : ℕ) → x < length sums.old → k < length self.now.weights.now → x * self.now.stride + k * self.now.dilation < length self.now.values.now }
+        ensures { Summed (across self.now.values.now self.now.weights.now self.now.stride self.now.dilation) (length self.now.weights.now) (length sums.old) sums.old sums.new }
+    {
+        let mut k = 0;
+        while k < self.weights.len() {
+            if 3 <= self.weights.len() - k {
+                self.add_some::<3>(sums, k);
+                k += 3;
+            } else {
+                self.add_some::<1>(sums, k);
+                k += 1;
+            }
+        }
     }
 }
 
@@ -145,32 +100,42 @@ fn add_all(sums: &mut [f32], values: &[f32], weights: &[f32], stride: usize, dil
 pub fn add_taps(sums: &mut [f32], values: &[f32], weights: &[f32], stride: usize, dilation: usize)
     ensures { Summed (across values.now weights.now stride dilation) (length weights.now) (held (length sums.old) (length values.now) (length weights.now) stride dilation) sums.old sums.new }
 {
-    let n = sums_held(sums.len(), values.len(), weights.len(), stride, dilation);
+    let row = Under {
+        values,
+        weights,
+        stride,
+        dilation,
+    };
+    let n = row.held(sums.len());
+    let held = &mut sums[..n];
     if n < 5 {
-        add_each(&mut sums[0..n], values, weights, stride, dilation);
+        row.add_each(held);
         return;
     }
-    if (stride == 1) & (dilation == 1) {
-        add_all(&mut sums[0..n], values, weights, 1, 1);
-        return;
+    match (stride, dilation) {
+        (1, 1) => Under {
+            stride: 1,
+            dilation: 1,
+            ..row
+        }
+        .add_all(held),
+        (1, _) => Under { stride: 1, ..row }.add_all(held),
+        _ => row.add_all(held),
     }
-    if stride == 1 {
-        add_all(&mut sums[0..n], values, weights, 1, dilation);
-        return;
-    }
-    add_all(&mut sums[0..n], values, weights, stride, dilation);
 }
 
 // Each sum takes the value beside it, with one weight, as far as both slices go.
 pub fn add_beside(sums: &mut [f32], values: &[f32], weight: f32)
     ensures { Summed (λ x k. pair (read values.now x) weight) 1 (min (length sums.old) (length values.now)) sums.old sums.new }
 {
-    let n = least(sums.len(), values.len());
-    let mut x = 0;
-    while x < n {
-        sums[x] = add_product(sums[x], values[x], weight);
-        x += 1;
-    }
+    let n = sums.len().min(values.len());
+    let row = Under {
+        values,
+        weights: &[weight],
+        stride: 1,
+        dilation: 1,
+    };
+    row.add_each(&mut sums[..n]);
 }
 
 // ---- the start of a row
@@ -180,10 +145,8 @@ pub fn add_beside(sums: &mut [f32], values: &[f32], weight: f32)
 pub fn start(sums: &mut [f32], weight: f32)
     ensures { sums.new ≡ tabulate (λ x. add_tap plus_zero (pair plus_zero weight)) (length sums.old) }
 {
-    let mut x = 0;
-    while x < sums.len() {
-        sums[x] = add_product(0.0, 0.0, weight);
-        x += 1;
+    for sum in sums.iter_mut() {
+        *sum = add_product(0.0, 0.0, weight);
     }
 }
 
@@ -195,11 +158,9 @@ fn add_values(sums: &mut [f32], values: &[f32], stride: usize, weight: f32)
     requires stride_1 { 1 ≤ stride }
     ensures { Summed (spread values.now weight stride) 1 (length sums.old) sums.old sums.new }
 {
-    let mut m = 0;
-    while m < values.len() {
+    for (m, value) in values.iter().enumerate() {
         let x = m * stride;
-        sums[x] = add_product(sums[x], values[m], weight);
-        m += 1;
+        sums[x] = add_product(sums[x], *value, weight);
     }
 }
 
@@ -210,10 +171,9 @@ pub fn add_spread(sums: &mut [f32], values: &[f32], stride: usize, weight: f32)
     if stride == 0 {
         return;
     }
-    let n = least(values.len(), ceil_div(sums.len(), stride));
-    if stride == 1 {
-        add_values(sums, &values[0..n], 1, weight);
-        return;
+    let n = values.len().min(ceil_div(sums.len(), stride));
+    match stride {
+        1 => add_values(sums, &values[..n], 1, weight),
+        _ => add_values(sums, &values[..n], stride, weight),
     }
-    add_values(sums, &values[0..n], stride, weight);
 }

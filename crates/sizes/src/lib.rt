@@ -55,194 +55,182 @@ pub fn ceil_div(a: usize, b: usize) -> usize
     if b == 0 {
         return 0;
     }
-    if a == 0 {
-        return 0;
-    }
     if a <= b {
-        return 1;
+        return a.min(1);
     }
-    (a - 1) / b + 1
+    a.div_ceil(b)
 }
 
 // ---- the size rule, for any axis within its limits
 
-fn dilated_kernel(a: Axis) -> usize
-    requires { AxisLimits a }
-    ensures { result ≡ dilated_kernel a }
-{
-    (a.kernel as usize - 1) * a.dilation as usize + 1
+// An axis that passes numbers 1 and 2, under the mode of its layer.
+#[derive(Clone, Copy)]
+struct Limited {
+    mode: AutoPad,
+    axis: Axis,
+    ghost limits: { AxisLimits axis },
 }
 
-fn same_out(a: Axis) -> usize
-    requires { AxisLimits a }
-    ensures { result ≡ same_out a }
-{
-    ceil_div(a.input as usize, a.stride as usize)
-}
+impl Limited {
+    #[tactic(auto, unfolding(crate::specs::Size::dilated_kernel))]
+    fn dilated_kernel(self) -> usize
+        ensures { result ≡ dilated_kernel self.axis }
+    {
+        (self.axis.kernel as usize - 1) * self.axis.dilation as usize + 1
+    }
 
-fn same_total(a: Axis) -> usize
-    requires { AxisLimits a }
-    ensures { result ≡ same_total a }
-{
-    let out = same_out(a);
-    minus(
-        (out - 1) * a.stride as usize + dilated_kernel(a),
-        a.input as usize,
-    )
-}
+    #[tactic(auto, unfolding(crate::specs::Size::same_out))]
+    fn same_out(self) -> usize
+        ensures { result ≡ same_out self.axis }
+    {
+        ceil_div(self.axis.input as usize, self.axis.stride as usize)
+    }
 
-// The padding on both sides: as the layer has it, in halves of the total, or none.
-fn pads_of(m: AutoPad, a: Axis) -> Pads
-    requires { AxisLimits a }
-    ensures { result ≡ pads_of m a }
-{
-    match m {
-        AutoPad::Explicit => Pads {
-            begin: a.pad_begin as usize,
-            end: a.pad_end as usize,
-        },
-        AutoPad::SameUpper => {
-            let total = same_total(a);
-            Pads {
-                begin: total / 2,
-                end: total - total / 2,
+    fn same_total(self) -> usize
+        ensures { result ≡ same_total self.axis }
+    {
+        let steps = (self.same_out() - 1) * self.axis.stride as usize;
+        (steps + self.dilated_kernel()).saturating_sub(self.axis.input as usize)
+    }
+
+    // The padding on both sides: as the layer has it, in halves of the total, or none.
+    fn pads(self) -> Pads
+        ensures { result ≡ pads_of self.mode self.axis }
+    {
+        match self.mode {
+            AutoPad::Explicit => Pads {
+                begin: self.axis.pad_begin as usize,
+                end: self.axis.pad_end as usize,
+            },
+            AutoPad::SameUpper => {
+                let total = self.same_total();
+                Pads {
+                    begin: total / 2,
+                    end: total - total / 2,
+                }
             }
-        }
-        AutoPad::SameLower => {
-            let total = same_total(a);
-            Pads {
-                begin: total - total / 2,
-                end: total / 2,
+            AutoPad::SameLower => {
+                let total = self.same_total();
+                Pads {
+                    begin: total - total / 2,
+                    end: total / 2,
+                }
             }
+            AutoPad::Valid => Pads { begin: 0, end: 0 },
         }
-        AutoPad::Valid => Pads { begin: 0, end: 0 },
     }
-}
 
-fn padded_size(m: AutoPad, a: Axis) -> usize
-    requires { AxisLimits a }
-    ensures { result ≡ padded (pads_of m a) a }
-{
-    let p = pads_of(m, a);
-    let begin = p.begin;
-    let end = p.end;
-    a.input as usize + begin + end
-}
-
-// Number 5 of convolution and pooling, for every mode: the kernel does not fit the padded axis.
-fn window_fits(m: AutoPad, a: Axis) -> bool
-    requires { AxisLimits a }
-    ensures { result ≡ window_fits m a }
-{
-    dilated_kernel(a) <= padded_size(m, a)
-}
-
-fn transposed_out(m: AutoPad, a: Axis) -> usize
-    requires { AxisLimits a }
-    ensures { result ≡ transposed_out m a }
-{
-    let p = pads_of(m, a);
-    let k = dilated_kernel(a);
-    let begin = p.begin;
-    let end = p.end;
-    minus(
-        (a.input as usize - 1) * a.stride as usize + k + a.output_padding as usize,
-        begin + end,
-    )
-}
-
-fn axis_fits(op: Op, m: AutoPad, a: Axis) -> bool
-    requires { AxisLimits a }
-    ensures { result ≡ axis_fits op m a }
-{
-    match op {
-        Op::Convolution => window_fits(m, a),
-        Op::Transposed => 1 <= transposed_out(m, a),
-        Op::MaxPool => window_fits(m, a),
+    fn padded_size(self) -> usize
+        ensures value { result ≡ padded (pads_of self.mode self.axis) self.axis }
+        ensures small { result < 2 ^ 40 }
+    {
+        let Pads { begin, end } = self.pads();
+        self.axis.input as usize + begin + end
     }
-}
 
-// The rounding of a size: with a same mode it changes nothing, and floor gives the size.
-fn rounding_of(m: AutoPad, rounding: Rounding) -> Rounding
-    ensures { result ≡ rounding_of m rounding }
-{
-    match m {
-        AutoPad::Explicit => rounding,
-        AutoPad::SameUpper => Rounding::Floor,
-        AutoPad::SameLower => Rounding::Floor,
-        AutoPad::Valid => rounding,
+    // Number 5 of convolution and pooling, for every mode: the kernel does not fit the padded axis.
+    fn window_fits(self) -> bool
+        ensures { result ≡ window_fits self.mode self.axis }
+    {
+        self.dilated_kernel() <= self.padded_size()
     }
-}
 
-// A size, less one where its last window would start at or past the input's end.
-fn less_last(p: Pads, a: Axis, out: usize) -> usize
-    requires { AxisLimits a × (padded p a < 2 ^ 40) × (1 ≤ out) × (out ≤ 2 ^ 40) }
-    ensures { result ≡ less_last p a out }
-{
-    let begin = p.begin;
-    if a.input as usize + begin <= (out - 1) * a.stride as usize {
-        return out - 1;
+    fn transposed_out(self) -> usize
+        ensures { result ≡ transposed_out self.mode self.axis }
+    {
+        let Pads { begin, end } = self.pads();
+        let steps = (self.axis.input as usize - 1) * self.axis.stride as usize;
+        let whole = steps + self.dilated_kernel() + self.axis.output_padding as usize;
+        whole.saturating_sub(begin + end)
     }
-    out
-}
 
-// The size by a rounding, with any pads that leave room for the kernel.
-fn explicit_out(rounding: Rounding, p: Pads, a: Axis) -> usize
-    requires { AxisLimits a × (dilated_kernel a ≤ padded p a) × (padded p a < 2 ^ 40) }
-    ensures { result ≡ explicit_out rounding p a }
-{
-    let begin = p.begin;
-    let end = p.end;
-    let room = a.input as usize + begin + end - dilated_kernel(a);
-    let stride = a.stride as usize;
-    let ceil = ceil_div(room, stride) + 1;
-    match rounding {
-        Rounding::Floor => room / stride + 1,
-        Rounding::Ceil => ceil,
-        Rounding::CeilTorch => less_last(p, a, ceil),
+    fn fits(self, op: Op) -> bool
+        ensures { result ≡ axis_fits op self.mode self.axis }
+    {
+        match op {
+            Op::Convolution | Op::MaxPool => self.window_fits(),
+            Op::Transposed => 1 <= self.transposed_out(),
+        }
     }
-}
 
-// The output size of convolution and pooling, for every mode: the explicit size with the pads of the mode.
-fn window_out(m: AutoPad, rounding: Rounding, a: Axis) -> usize
-    requires { AxisLimits a × (window_fits m a ≡ true) }
-    ensures { result ≡ window_out m rounding a }
-{
-    explicit_out(rounding_of(m, rounding), pads_of(m, a), a)
-}
-
-fn out_of(op: Op, m: AutoPad, rounding: Rounding, a: Axis) -> usize
-    requires { AxisLimits a × (axis_fits op m a ≡ true) }
-    ensures { result ≡ out_of op m rounding a }
-{
-    match op {
-        Op::Convolution => window_out(m, Rounding::Floor, a),
-        Op::Transposed => transposed_out(m, a),
-        Op::MaxPool => window_out(m, rounding, a),
+    // The rounding of a size: with a same mode it changes nothing, and floor gives the size.
+    #[tactic(auto, unfolding(crate::specs::Size::rounding_of))]
+    fn rounding_of(self, rounding: Rounding) -> Rounding
+        ensures { result ≡ rounding_of self.mode rounding }
+    {
+        match self.mode {
+            AutoPad::Explicit | AutoPad::Valid => rounding,
+            AutoPad::SameUpper | AutoPad::SameLower => Rounding::Floor,
+        }
     }
-}
 
-fn span_of(op: Op, m: AutoPad, rounding: Rounding, a: Axis) -> Span
-    requires axis_limits { AxisLimits a × (axis_fits op m a ≡ true) }
-    requires span_limits { SpanLimits (span_of op m rounding a) }
-    ensures { result ≡ span_of op m rounding a }
-{
-    let p = pads_of(m, a);
-    let out = out_of(op, m, rounding, a);
-    let begin = p.begin;
-    Span {
-        input: a.input,
-        kernel: a.kernel,
-        stride: a.stride as u16,
-        dilation: a.dilation as u16,
-        begin: begin as u32,
-        out: out as u32,
+    // A size, less one where its last window would start at or past the input's end.
+    fn less_last(self, out: usize) -> usize
+        requires { (1 ≤ out) × (out ≤ 2 ^ 40) }
+        ensures { result ≡ less_last (pads_of self.mode self.axis) self.axis out }
+    {
+        let Pads { begin, .. } = self.pads();
+        if self.axis.input as usize + begin <= (out - 1) * self.axis.stride as usize {
+            return out - 1;
+        }
+        out
+    }
+
+    // The size by a rounding, where the pads of the mode leave room for the kernel.
+    fn explicit_out(self, rounding: Rounding) -> usize
+        requires { window_fits self.mode self.axis ≡ true }
+        ensures { result ≡ explicit_out rounding (pads_of self.mode self.axis) self.axis }
+    {
+        let room = self.padded_size() - self.dilated_kernel();
+        let stride = self.axis.stride as usize;
+        let ceil = ceil_div(room, stride) + 1;
+        match rounding {
+            Rounding::Floor => room / stride + 1,
+            Rounding::Ceil => ceil,
+            Rounding::CeilTorch => self.less_last(ceil),
+        }
+    }
+
+    // The output size of convolution and pooling, for every mode: the explicit size with the pads of the mode.
+    fn window_out(self, rounding: Rounding) -> usize
+        requires { window_fits self.mode self.axis ≡ true }
+        ensures { result ≡ window_out self.mode rounding self.axis }
+    {
+        self.explicit_out(self.rounding_of(rounding))
+    }
+
+    fn out(self, op: Op, rounding: Rounding) -> usize
+        requires { axis_fits op self.mode self.axis ≡ true }
+        ensures { result ≡ out_of op self.mode rounding self.axis }
+    {
+        match op {
+            Op::Convolution => self.window_out(Rounding::Floor),
+            Op::Transposed => self.transposed_out(),
+            Op::MaxPool => self.window_out(rounding),
+        }
+    }
+
+    fn span(self, op: Op, rounding: Rounding) -> Span
+        requires fits { axis_fits op self.mode self.axis ≡ true }
+        requires limits { SpanLimits (span_of op self.mode rounding self.axis) }
+        ensures { result ≡ span_of op self.mode rounding self.axis }
+    {
+        let Pads { begin, .. } = self.pads();
+        Span {
+            input: self.axis.input,
+            kernel: self.axis.kernel,
+            stride: self.axis.stride as u16,
+            dilation: self.axis.dilation as u16,
+            begin: begin as u32,
+            out: self.out(op, rounding) as u32,
+        }
     }
 }
 
 // ---- the size rule, for any axis
 
 // Number 1 on one axis.
+#[tactic(auto, unfolding(crate::specs::Sizing::axis_dimensions_ok))]
 pub fn axis_dimensions_ok(a: Axis) -> bool
     ensures { result ≡ axis_dimensions_ok a }
 {
@@ -250,6 +238,7 @@ pub fn axis_dimensions_ok(a: Axis) -> bool
 }
 
 // Number 2 on one axis.
+#[tactic(auto, unfolding(crate::specs::Sizing::axis_attributes_ok))]
 pub fn axis_attributes_ok(op: Op, m: AutoPad, a: Axis) -> bool
     ensures { result ≡ axis_attributes_ok op m a }
 {
@@ -281,8 +270,12 @@ pub fn size_axis(op: Op, auto_pad: AutoPad, rounding: Rounding, axis: Axis) -> O
     if !(axis_dimensions_ok(axis) & axis_attributes_ok(op, auto_pad, axis)) {
         return None;
     }
-    if !axis_fits(op, auto_pad, axis) {
+    let limited = Limited {
+        mode: auto_pad,
+        axis,
+    };
+    if !limited.fits(op) {
         return None;
     }
-    Some(span_of(op, auto_pad, rounding, axis))
+    Some(limited.span(op, rounding))
 }

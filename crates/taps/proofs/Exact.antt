@@ -1,6 +1,6 @@
 -- What a range of taps says of each tap, and what is said at once of all taps of a position; output positions with the same taps inside the input.
 use Rattle.std.specs.Prelude.{None, Option, Some}
-use Prim.Native.Nat.{ℕ, ◌+◌, ◌-◌, ◌*◌, ◌≤◌, ◌<◌}
+use Prim.Native.Nat.{ℕ, ◌+◌, ◌-◌, ◌*◌, ◌≤◌, ◌<◌, max}
 use native.Mathlib.Nat.{add_comm, mul-le-mul_right}
 use native.Mathlib.Omega.{arith}
 use native.Mathlib.Decide.{dec_lt}
@@ -92,6 +92,15 @@ module _ (s : Span) {p limit end : ℕ} (h : p * s.stride + (s.kernel - 1) * s.d
 
   pub before_one : end ≡ p + 1 → AllBefore s p limit end
   before_one e = record { some = omega arith; before = λ q m n. let z : q ≡ p = omega arith in rw z h }
+
+-- whichever is more
+module _ (s : Span) {p limit end : ℕ} (h : p * s.stride + (s.kernel - 1) * s.dilation < limit) (e : end ≡ ceil_div (limit - (s.kernel - 1) * s.dilation) s.stride) where
+  pub before_most : AllBefore s p limit (max (p + 1) end)
+  before_most = go (dec_lt (p + 1) end)
+    where
+      go : Dec (p + 1 < end) → AllBefore s p limit (max (p + 1) end)
+      go (yes l) = let z : max (p + 1) end ≡ end = omega arith in rw z (before_all s h e l)
+      go (no l) = before_one s h (omega arith)
 
 -- positions with the same taps inside have the same range
 pub same_alike : (s : Span) (p end first count : ℕ) → SameTaps s p end → Exactly s.kernel (tap_inside s p) first count → Alike s p end first count

@@ -6,7 +6,7 @@ ghost use Rattle.std.specs.Prelude.{◌≡◌, ◌+◌, ◌-◌, ◌*◌, ◌<�
 ghost use Rattle.taps.specs.Taps.{tap_position, tap_inside, position_of, turned, some_missed, Exactly, SameTaps, Alike, AllBefore, steps_to};
 ghost use Rattle.taps.specs.Joins.{position_in, position_by, forward, backward, tap_on};
 
-use sizes::{Span, ceil_div, least, minus};
+use sizes::{Span, ceil_div};
 
 // The taps of one output position that lie inside the input: `count` of them, from `first` on.
 #[derive(Clone, Copy)]
@@ -114,10 +114,10 @@ pub fn taps_inside(s: Span, p: u32) -> Taps
     let start = p as usize * s.stride as usize;
     let begin = s.begin as usize;
     let dilation = s.dilation as usize;
-    let first = steps_to(minus(begin, start), dilation);
-    let until = steps_to(minus(s.input as usize + begin, start), dilation);
-    let end = least(s.kernel as usize, until);
-    let count = minus(end, first);
+    let first = steps_to(begin.saturating_sub(start), dilation);
+    let until = steps_to((s.input as usize + begin).saturating_sub(start), dilation);
+    let end = (s.kernel as usize).min(until);
+    let count = end.saturating_sub(first);
     Taps { first, count }
 }
 
@@ -146,14 +146,14 @@ pub fn outputs_inside(s: Span, k: u32) -> Taps
 pub fn position_of(s: Span, p: u32, k: u32) -> usize
     ensures { result ≡ position_of s p k }
 {
-    minus(tap_position(s, p, k), s.begin as usize)
+    tap_position(s, p, k).saturating_sub(s.begin as usize)
 }
 
 // The distance from the first tap of a position to its last.
 fn reach(s: Span) -> usize
     ensures { result ≡ (s.kernel - 1) * s.dilation }
 {
-    minus(s.kernel as usize, 1) * s.dilation as usize
+    (s.kernel as usize).saturating_sub(1) * s.dilation as usize
 }
 
 // The end of the positions from p on whose last tap lies before `limit`, as that of p does.
@@ -162,8 +162,8 @@ fn end_before(s: Span, p: u32, limit: usize) -> usize
     ensures { AllBefore s p limit result }
 {
     let next = p as usize + 1;
-    let end = ceil_div(minus(limit, reach(s)), s.stride as usize);
-    if next < end { end } else { next }
+    let end = ceil_div(limit.saturating_sub(reach(s)), s.stride as usize);
+    next.max(end)
 }
 
 // The end of the positions from p on that have the same taps inside the input, as far as this is told at once: where every tap of p lies before the input,
@@ -204,15 +204,10 @@ pub fn run_from(s: Span, p: u32) -> Run
 pub fn some_missed(s: Span) -> bool
     ensures { result ≡ some_missed s }
 {
-    let out = s.out;
-    let mut p: u32 = 0;
-    while p < out {
-        let t = taps_inside(s, p);
-        let count = t.count;
-        if count == 0 {
+    for p in 0..s.out {
+        if taps_inside(s, p).count == 0 {
             return true;
         }
-        p += 1;
     }
     false
 }

@@ -1,46 +1,39 @@
 -- At each return the tests passed so far say which case of the definition holds.
 use mathlib.Core.Path.{◌≡◌, sym, ◌∙◌}
-use mathlib.Core.Bool.{true, false, ◌&&◌}
+use mathlib.Core.Bool.{Bool, true, ◌&&◌}
 use Rattle.layer.proofs.Tests.{and_both}
-use Rattle.sizes.specs.Size.{axis_fits}
-use Rattle.sizes.specs.Sizing.{axis_dimensions_ok, axis_attributes_ok, sizing}
-use Rattle.sizes.specs.Bounds.{AxisLimits}
+use Rattle.sizes.specs.Sizing.{sizing}
 use Rattle.sizes.proofs.Limits.{axis_limits, span_limits}
 use Rattle.sizes.proofs.size_axis.Goals as goal
-use Rattle.sizes.proofs.size_axis.Goals.{Else-not-axis_dimensions_ok-axis_attributes_ok, Else-not-axis_fits, Then-not-axis_dimensions_ok-axis_attributes_ok}
 
-bad : (c : Then-not-axis_dimensions_ok-axis_attributes_ok) → let a = c.args in axis_dimensions_ok a.axis && axis_attributes_ok a.op a.auto_pad a.axis ≡ false
-bad c = rw (← c.axis_dimensions_ok.ensures, ← c.axis_attributes_ok.ensures) c.if-not-axis_dimensions_ok-axis_attributes_ok.true
-
-ok : (c : Else-not-axis_dimensions_ok-axis_attributes_ok) → let a = c.args in (axis_dimensions_ok a.axis ≡ true) × (axis_attributes_ok a.op a.auto_pad a.axis ≡ true)
-ok c =
-    let a = c.args in
-    and_both (axis_dimensions_ok a.axis) (axis_attributes_ok a.op a.auto_pad a.axis)
-    (rw (← c.axis_dimensions_ok.ensures, ← c.axis_attributes_ok.ensures) c.if-not-axis_dimensions_ok-axis_attributes_ok.false)
-
-limits : (c : Else-not-axis_dimensions_ok-axis_attributes_ok) → AxisLimits c.args.axis
-limits c = let a = c.args in axis_limits a.op a.auto_pad a.axis (ok c).0 (ok c).1
-
-fits : (c : Else-not-axis_fits) → let a = c.args in axis_fits a.op a.auto_pad a.axis ≡ true
-fits c = sym c.axis_fits.ensures ∙ c.if-not-axis_fits.false
+ok : {d t x y : Bool} → d ≡ x → t ≡ y → d && t ≡ true → (x ≡ true) × (y ≡ true)
+ok p q h = and_both _ _ (rw (← p, ← q) h)
 
 pub returns-then-not-axis_dimensions_ok-axis_attributes_ok : goal.returns-then-not-axis_dimensions_ok-axis_attributes_ok
 unfolding sizing
-returns-then-not-axis_dimensions_ok-axis_attributes_ok c = simp (bad c)
+returns-then-not-axis_dimensions_ok-axis_attributes_ok c =
+    simp (sym c.axis_dimensions_ok.ensures, sym c.axis_attributes_ok.ensures, c.if-not-axis_dimensions_ok-axis_attributes_ok.true)
 
-pub returns-then-not-axis_fits : goal.returns-then-not-axis_fits
-unfolding sizing
-returns-then-not-axis_fits c = let o = ok c.before.before in simp (o.0, o.1, sym c.axis_fits.ensures ∙ c.if-not-axis_fits.true)
-
-pub span_of-requires : goal.span_of-requires
-span_of-requires c =
+pub invariant_of-limited : goal.invariant_of-limited
+invariant_of-limited c =
     let a = c.args in
-    let o = ok c.before.before in
-    record { axis_limits = (limits c.before.before, fits c); span_limits = span_limits a.op a.auto_pad a.rounding a.axis o.0 o.1 (fits c) }
+    let o = ok c.axis_dimensions_ok.ensures c.axis_attributes_ok.ensures c.if-not-axis_dimensions_ok-axis_attributes_ok.false in
+    record { limits = axis_limits a.op a.auto_pad a.axis o.0 o.1 }
+
+pub returns-then-not-fits : goal.returns-then-not-fits
+unfolding sizing
+returns-then-not-fits c =
+    let o = ok c.axis_dimensions_ok.ensures c.axis_attributes_ok.ensures c.if-not-axis_dimensions_ok-axis_attributes_ok.false in
+    simp (o.0, o.1, sym c.fits.ensures, c.if-not-fits.true)
+
+pub span-requires-clause-limits : goal.span-requires-clause-limits
+span-requires-clause-limits c =
+    let a = c.args in
+    let o = ok c.axis_dimensions_ok.ensures c.axis_attributes_ok.ensures c.if-not-axis_dimensions_ok-axis_attributes_ok.false in
+    span_limits a.op a.auto_pad a.rounding a.axis o.0 o.1 (sym c.fits.ensures ∙ c.if-not-fits.false)
 
 pub returns : goal.returns
 unfolding sizing
-returns c = let o = ok c.before.before.before in simp (o.0, o.1, fits c.before, c.span_of.ensures)
-
-pub axis_fits-requires : goal.axis_fits-requires
-axis_fits-requires c = limits c
+returns c =
+    let o = ok c.axis_dimensions_ok.ensures c.axis_attributes_ok.ensures c.if-not-axis_dimensions_ok-axis_attributes_ok.false in
+    simp (o.0, o.1, sym c.fits.ensures, c.if-not-fits.false, c.span.ensures)

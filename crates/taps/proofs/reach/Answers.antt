@@ -6,7 +6,7 @@ use Rattle.sizes.proofs.Division.{times_le}
 use Rattle.taps.proofs.reach.Goals as goal
 
 pub overflow_mul-result : goal.overflow_mul-result
-overflow_mul-result c = omega (arith, times_le {a = c.minus.result} {b = c.args.s.dilation} 4294967295 65535 (omega (arith, c.minus.ensures)) (omega arith))
+overflow_mul-result c = omega (arith, times_le {a = c.saturating_sub.result} {b = c.args.s.dilation} 4294967295 65535 (omega (arith, c.saturating_sub.ensures)) (omega arith))
 
 pub returns : goal.returns
-returns c = ap (λ (n : ℕ). n * c.args.s.dilation) c.minus.ensures
+returns c = ap (λ (n : ℕ). n * c.args.s.dilation) c.saturating_sub.ensures

@@ -11,11 +11,11 @@ pub returns : goal.returns
 returns c =
     let a = c.args in
     simp (
-      c.minus-count.ensures,
-      c.least-end.ensures,
+      c.saturating_sub-count.ensures,
+      c.min-end.ensures,
       c.steps_to-until.ensures,
-      c.minus-2.ensures,
+      c.saturating_sub-2.ensures,
       c.steps_to-first.ensures,
-      c.minus.ensures,
+      c.saturating_sub.ensures,
     )
     (taps_exact a.s.input a.s.kernel a.s.stride a.s.dilation a.s.begin a.p (omega arith))
