@@ -1,57 +1,56 @@
 -- Laws of functions that read line after line: r is the code's answer for one line.
 use Prim.Native.Nat.{ℕ, suc}
-use mathlib.Core.Path.{◌≡◌, refl, sym, ap, ◌∙◌}
+use mathlib.Core.Path.{◌≡◌, refl, sym}
 use mathlib.Core.List.{List}
 use mathlib.Core.Bool.{Bool, true, false}
+use Rattle.std.specs.Prelude.{Result, Ok, Err}
 use lib.ListN.{length}
 use borrow.Author.Tests.{eq-eqb, ne_eqb}
-use Rattle.text.specs.Lines.{Parsed, got, bad}
 use Rattle.text.specs.declared.Items.{Items}
 use Rattle.layer.specs.declared.Layer.{Layer}
+use Rattle.layer.specs.declared.SheetError.{SheetError}
+use Rattle.layer.specs.declared.SheetError.TheVariants.{Key, Unused}
 use Rattle.values.specs.declared.Field.{Field}
-use Rattle.lines.specs.Lines.{field_line, unless_taken, if_used, parsed}
-use Rattle.lines.specs.Form.{Form, line, layer, after, read_form}
-use Rattle.lines.specs.declared.Read.TheVariants.{Sheet, Refused}
-use Rattle.lines.specs.declared.LineAnswer.{LineAnswer}
-use Rattle.lines.specs.declared.LineAnswer.TheVariants.{LineAt, BadLine}
+use Rattle.lines.specs.Lines.{field_line, unless_taken, if_used}
+use Rattle.lines.specs.Form.{Form, line, layer, refusal, read_form, after}
 
 -- a value that is taken, and one that is not
-module _ (taken : Items → Bool) {x : Parsed Items} {v : Items} {next : ℕ} (e : x ≡ got v next) where
-  pub taken_line : taken v ≡ true → got v next ≡ unless_taken taken x
+module _ (taken : Items → Bool) {x : Result (Items × ℕ) SheetError} {v : Items} {next : ℕ} (e : Ok (v, next) ≡ x) where
+  pub taken_line : true ≡ taken v → Ok (v, next) ≡ unless_taken taken x
   unfolding unless_taken
-  taken_line u = sym (rw (e, u))
+  taken_line u = rw (← e, ← u)
 
-  pub left_line : taken v ≡ false → bad 23 ≡ unless_taken taken x
+  pub left_line : false ≡ taken v → Err Unused ≡ unless_taken taken x
   unfolding unless_taken
-  left_line u = sym (rw (e, u))
+  left_line u = rw (← e, ← u)
 
 -- a line that is used takes what it reads
-pub all_taken : (x : Parsed Items) → unless_taken (if_used true) x ≡ x
+pub all_taken : (x : Result (Items × ℕ) SheetError) → unless_taken (if_used true) x ≡ x
 unfolding unless_taken
-all_taken (got v next) = refl
-all_taken (bad k) = refl
+all_taken (Ok p) = refl
+all_taken (Err k) = refl
 
-pub none_taken : (taken : Items → Bool) {x : Parsed Items} {k : ℕ} → x ≡ bad k → bad k ≡ unless_taken taken x
+pub none_taken : (taken : Items → Bool) {x : Result (Items × ℕ) SheetError} {k : SheetError} → Err k ≡ x → Err k ≡ unless_taken taken x
 unfolding unless_taken
-none_taken taken e = sym (rw e)
+none_taken taken e = rw (← e)
 
 -- the first of the lines is refused, or read and the others follow
-module _ (key : List ℕ) (field : Field) (taken : Items → Bool) (more : Items → Form) (number : ℕ) (s : List ℕ) (at : ℕ) (r : LineAnswer)
-    (q : parsed r ≡ unless_taken taken (field_line key field s at)) where
-  pub stopped : {k : ℕ} → r ≡ BadLine k → read_form (line key field taken more) number s at ≡ Refused k number
+module _ (key : List ℕ) (field : Field) (taken : Items → Bool) (more : Items → Form) (number : ℕ) (s : List ℕ) (at : ℕ) {r : Result (Items × ℕ) SheetError}
+    (q : r ≡ unless_taken taken (field_line key field s at)) where
+  pub stopped : {e : SheetError} → r ≡ Err e → read_form (line key field taken more) number s at ≡ Err (refusal e number)
   unfolding read_form after
-  stopped e = rw (sym q ∙ ap parsed e)
+  stopped e = rw (sym q, e)
 
-  pub went_on : {v : Items} {next : ℕ} → r ≡ LineAt v next → read_form (line key field taken more) number s at ≡ read_form (more v) (suc number) s next
+  pub went_on : {v : Items} {next : ℕ} → r ≡ Ok (v, next) → read_form (line key field taken more) number s at ≡ read_form (more v) (suc number) s next
   unfolding read_form after
-  went_on e = rw (sym q ∙ ap parsed e)
+  went_on e = rw (sym q, e)
 
 -- the end
 module _ (l : Layer) (number : ℕ) (s : List ℕ) (at : ℕ) where
-  pub nothing_after : at ≡ length s → read_form (layer l) number s at ≡ Sheet l
+  pub nothing_after : at ≡ length s → read_form (layer l) number s at ≡ Ok l
   unfolding read_form
   nothing_after e = rw (eq-eqb at (length s) e)
 
-  pub left_over : (at ≡ length s → ⊥) → read_form (layer l) number s at ≡ Refused 20 number
+  pub left_over : (at ≡ length s → ⊥) → read_form (layer l) number s at ≡ Err (refusal Key number)
   unfolding read_form
   left_over e = rw (ne_eqb at (length s) e)

@@ -7,10 +7,10 @@ use native.Mathlib.Numerals.{add-one, sub-one}
 use native.Mathlib.Nat.{add-zero}
 use native.Mathlib.Omega.{arith}
 use lib.ListN.{length, length-append, set, take, get_or}
-use lib.Seq.{sets, length-sets, set_out, take-suc, take_all}
+use lib.Seq.{sets, length-sets, set_out, take-suc}
 use Rattle.text.specs.Numbers.{decimal}
 use Rattle.text.specs.Lists.{shown, show_numbers, later_items}
-use Rattle.print.specs.Put.{Put, place_after}
+use Rattle.print.specs.Put.{Put}
 use Rattle.text.specs.declared.Items.{Items}
 use Rattle.text.proofs.NumberLaws.{lt_or_le}
 
@@ -47,10 +47,6 @@ module _ {l m : List ℕ} {at k : ℕ} {a : List ℕ} where
         room = p.room;
       }
 
--- a byte past the end
-pub byte_out : (l : List ℕ) (at b r : ℕ) → length l < 9223372036854775808 → r ≡ place_after at 1 → length l ≤ at → Put l at (b ∷ []) r l
-byte_out l at b r h e o = record { next_is = e; left_is = sym (set_out l at b o); room = h }
-
 -- ---- the steps of put_text and put_shown
 pub put_none : (l : List ℕ) (at : ℕ) → at ≤ 18446744073709551615 → length l < 9223372036854775808 → Put l at [] at l
 put_none l at f h = record { next_is = omega arith; left_is = refl; room = h }
@@ -58,9 +54,6 @@ put_none l at f h = record { next_is = omega arith; left_is = refl; room = h }
 pub text_step : (l m e s : List ℕ) (at k i r : ℕ) → Put l at (take i s) k m → i < length s → Put m k (get_or s i 0 ∷ []) r e
     → Put l at (take (i + 1) s) r e
 text_step l m e s at k i r p h q = rw (add-one, take-suc s i 0 h) (put_then p q)
-
-pub text_end : (l m s : List ℕ) (at k i : ℕ) → Put l at (take i s) k m → length s ≤ i → Put l at s k m
-text_end l m s at k i p h = rw (take_all i s h) at p
 
 pub show_more : (n : ℕ) (items : Items) → (n ≡ 0 → ⊥) → (n ≡ 1 → ⊥)
     → shown n items ≡ decimal items.a ++ (44 ∷ shown (n - 1) (later_items items))

@@ -5,38 +5,25 @@
 ghost use Rattle.std.specs.Prelude.{◌≤◌, [], ◌∷◌, ◌≡◌};
 ghost use Rattle.text.specs.Numbers.{decimal};
 ghost use Rattle.text.specs.Lists.{shown, show_numbers};
-ghost use Rattle.print.specs.Put.{Put, place_after};
+ghost use Rattle.print.specs.Put.{Put};
 
 use text::Items;
-
-// The place after the next byte.
-fn next_place(at: usize) -> usize
-    ensures { result ≡ place_after at 1 }
-{
-    if at < 18446744073709551615 {
-        return at + 1;
-    }
-    at
-}
 
 pub fn put_byte(buf: &mut [u8], at: usize, b: u8) -> usize
     ensures { Put buf.old at (b ∷ []) result buf.new }
 {
     if at < buf.len() {
         buf[at] = b;
-        return next_place(at);
     }
-    next_place(at)
+    at.saturating_add(1)
 }
 
 pub fn put_text(buf: &mut [u8], at: usize, src: &[u8]) -> usize
     ensures { Put buf.old at src.now result buf.new }
 {
     let mut next = at;
-    let mut i = 0;
-    while i < src.len() {
-        next = put_byte(buf, next, src[i]);
-        i += 1;
+    for b in src {
+        next = put_byte(buf, next, *b);
     }
     next
 }
@@ -46,10 +33,10 @@ pub fn put_number(buf: &mut [u8], at: usize, n: u32) -> usize
     ensures { Put buf.old at (decimal n) result buf.new }
 {
     if n < 10 {
-        return put_byte(buf, at, (48 + n) as u8);
+        return put_byte(buf, at, b'0' + n as u8);
     }
     let next = put_number(buf, at, n / 10);
-    put_byte(buf, next, (48 + n % 10) as u8)
+    put_byte(buf, next, b'0' + (n % 10) as u8)
 }
 
 // So many of the numbers, with a comma between two: the first, then the others.
@@ -64,7 +51,7 @@ fn put_shown(buf: &mut [u8], at: usize, count: usize, items: Items) -> usize
     if count == 1 {
         return next;
     }
-    let comma = put_byte(buf, next, 44);
+    let comma = put_byte(buf, next, b',');
     put_shown(
         buf,
         comma,
@@ -84,8 +71,5 @@ fn put_shown(buf: &mut [u8], at: usize, count: usize, items: Items) -> usize
 pub fn put_numbers(buf: &mut [u8], at: usize, count: usize, items: Items) -> usize
     ensures { Put buf.old at (show_numbers count items) result buf.new }
 {
-    if 6 < count {
-        return put_shown(buf, at, 6, items);
-    }
-    put_shown(buf, at, count, items)
+    put_shown(buf, at, count.min(6), items)
 }

@@ -3,7 +3,7 @@ use Prim.Native.Nat.{ℕ, zero, suc, ◌+◌, ◌-◌, ◌*◌, ◌≤◌, ◌<�
 use mathlib.Core.Path.{◌≡◌, refl, sym, ap, ◌∙◌}
 use mathlib.Core.List.{List, ◌∷◌, ◌++◌}
 use mathlib.Core.Bool.{Bool, true, false, cond, false≢true}
-use mathlib.Core.Option.{Option, some, none}
+use Rattle.std.specs.Prelude.{Option, Some, None}
 use native.Mathlib.Numerals.{add-one, sub-one}
 use native.Mathlib.Omega.{arith}
 use lib.Dec.{leb, ltb}
@@ -21,7 +21,7 @@ use Rattle.text.proofs.NumberLaws.{number_decimal, decimal_number, decimal_absen
 -- a list of more than one number, as the code reads it; comma is the first comma's place
 pub numbers_more : (t : List ℕ) (n comma : ℕ) → (n ≡ 0 → ⊥) → (n ≡ 1 → ⊥) → comma ≡ place 44 t
     → spelled n t
-    ≡ cond (ltb comma (length t)) (one_more (number (take comma t)) (spelled (n - 1) (take (length t - (comma + 1)) (drop (comma + 1) t)))) none
+    ≡ cond (ltb comma (length t)) (one_more (number (take comma t)) (spelled (n - 1) (take (length t - (comma + 1)) (drop (comma + 1) t)))) None
 unfolding spelled
 numbers_more t zero comma p q e = absurd (p refl)
 numbers_more t (suc zero) comma p q e = absurd (q refl)
@@ -47,7 +47,7 @@ later_range : (items : Items) → InRange items → InRange (later_items items)
 later_range items r = record { a = r.b; b = r.c; c = r.d; d = r.e; e = r.f; f = omega arith }
 
 -- reading what was written
-pub numbers_show : (k : ℕ) (items : Items) → InRange items → spelled (suc k) (shown (suc k) items) ≡ some (keep (suc k) items)
+pub numbers_show : (k : ℕ) (items : Items) → InRange items → spelled (suc k) (shown (suc k) items) ≡ Some (keep (suc k) items)
 unfolding spelled shown last_number one_more
 numbers_show zero items r = rw (number_decimal items.a r.a)
 numbers_show (suc k) items r =
@@ -59,16 +59,16 @@ numbers_show (suc k) items r =
     let d : drop (suc (length u)) (u ++ (44 ∷ v)) ≡ v = rw (← add-one (length u)) (drop-append-add u (44 ∷ v) 1) in
     rw (p, lt-ltb (length u) (length (u ++ (44 ∷ v))) l, take-append_seam u (44 ∷ v), d, number_decimal items.a r.a, numbers_show k (later_items items) (later_range items r))
 
-pub some_last : (o : Option ℕ) (items : Items) → last_number o ≡ some items → (x : ℕ) × (o ≡ some x) × (items ≡ one_item x)
+pub some_last : (o : Option ℕ) (items : Items) → last_number o ≡ Some items → (x : ℕ) × (o ≡ Some x) × (items ≡ one_item x)
 unfolding last_number
-some_last none items e = absurd (false≢true cc)
-some_last (some x) items e = (x, refl, cc)
+some_last None items e = absurd (false≢true cc)
+some_last (Some x) items e = (x, refl, cc)
 
-some_more : (o : Option ℕ) (r : Option Items) (items : Items) → one_more o r ≡ some items → (x : ℕ) × (g : Items) × (o ≡ some x) × (r ≡ some g) × (items ≡ more_item x g)
+some_more : (o : Option ℕ) (r : Option Items) (items : Items) → one_more o r ≡ Some items → (x : ℕ) × (g : Items) × (o ≡ Some x) × (r ≡ Some g) × (items ≡ more_item x g)
 unfolding one_more
-some_more none r items e = absurd (false≢true cc)
-some_more (some x) none items e = absurd (false≢true cc)
-some_more (some x) (some g) items e = (x, g, refl, refl, cc)
+some_more None r items e = absurd (false≢true cc)
+some_more (Some x) None items e = absurd (false≢true cc)
+some_more (Some x) (Some g) items e = (x, g, refl, refl, cc)
 
 -- the numbers that are read are in range, and the others are 0
 pub more_range : (x : ℕ) (g : Items) → x ≤ 4294967295 → InRange g → InRange (more_item x g)
@@ -85,18 +85,18 @@ show_more (suc (suc (suc (suc zero)))) x g h = refl
 show_more (suc (suc (suc (suc (suc k))))) x g h = absurd (omega (arith, h))
 
 -- writing what was read
-pub numbers_back : (k : ℕ) (t : List ℕ) (items : Items) → k < 6 → spelled (suc k) t ≡ some items → (shown (suc k) items ≡ t) × InRange items
+pub numbers_back : (k : ℕ) (t : List ℕ) (items : Items) → k < 6 → spelled (suc k) t ≡ Some items → (shown (suc k) items ≡ t) × InRange items
 unfolding spelled shown
 numbers_back zero t items m e =
     let h = some_last (number t) items e in
     let d = decimal_number t h.0 h.1 in
     (rw h.2 d.0, rw h.2 (record { a = d.1; b = omega arith; c = omega arith; d = omega arith; e = omega arith; f = omega arith }))
 numbers_back (suc k) t items m e = go (ltb (place 44 t) (length t)) refl e
-    (λ (g : Items) (q : spelled (suc k) (drop (suc (place 44 t)) t) ≡ some g). numbers_back k (drop (suc (place 44 t)) t) g (omega arith) q)
+    (λ (g : Items) (q : spelled (suc k) (drop (suc (place 44 t)) t) ≡ Some g). numbers_back k (drop (suc (place 44 t)) t) g (omega arith) q)
   where
     go : (b : Bool) → ltb (place 44 t) (length t) ≡ b
-        → cond b (one_more (number (take (place 44 t) t)) (spelled (suc k) (drop (suc (place 44 t)) t))) none ≡ some items
-        → ((g : Items) → spelled (suc k) (drop (suc (place 44 t)) t) ≡ some g → (shown (suc k) g ≡ drop (suc (place 44 t)) t) × InRange g)
+        → cond b (one_more (number (take (place 44 t) t)) (spelled (suc k) (drop (suc (place 44 t)) t))) None ≡ Some items
+        → ((g : Items) → spelled (suc k) (drop (suc (place 44 t)) t) ≡ Some g → (shown (suc k) g ≡ drop (suc (place 44 t)) t) × InRange g)
         → (decimal items.a ++ (44 ∷ shown (suc k) (later_items items)) ≡ t) × InRange items
     go false p q ih = absurd (false≢true cc)
     go true p q ih =
@@ -116,7 +116,7 @@ numbers_absent (suc k) items =
     ∙ rw (numbers_absent k (later_items items)) (sym (length-append (decimal items.a) (44 ∷ shown (suc k) (later_items items))))
 
 -- ---- so many numbers, up to six
-spelled_back : (n : ℕ) (t : List ℕ) (items : Items) → n ≤ 6 → spelled n t ≡ some items → shown n items ≡ t
+spelled_back : (n : ℕ) (t : List ℕ) (items : Items) → n ≤ 6 → spelled n t ≡ Some items → shown n items ≡ t
 unfolding spelled
 spelled_back zero t items h e = absurd (false≢true cc)
 spelled_back (suc k) t items h e = (numbers_back k t items (omega arith) e).0
@@ -130,7 +130,7 @@ pub numbers_inverse : (count : ℕ) → Inverse (numbers count) (show_numbers co
 unfolding numbers show_numbers
 numbers_inverse count = record { shown_read = λ t items e. back t items (leb count 6) refl e; one_line = λ items. shown_flat (min count 6) items }
   where
-    back : (t : List ℕ) (items : Items) (b : Bool) → leb count 6 ≡ b → cond b (spelled count t) none ≡ some items → shown (min count 6) items ≡ t
+    back : (t : List ℕ) (items : Items) (b : Bool) → leb count 6 ≡ b → cond b (spelled count t) None ≡ Some items → shown (min count 6) items ≡ t
     back t items true q e =
         let h = leb-true count 6 q in
         let least : min count 6 ≡ count = omega arith in
@@ -145,15 +145,15 @@ module _ (k : ℕ) (items : Items) (h : k < 6) where
   least : min (suc k) 6 ≡ suc k
   least = omega arith
 
-  pub numbers_shown : InRange items → keep (suc k) items ≡ items → numbers (suc k) (show_numbers (suc k) items) ≡ some items
+  pub numbers_shown : InRange items → keep (suc k) items ≡ items → numbers (suc k) (show_numbers (suc k) items) ≡ Some items
   unfolding numbers show_numbers
-  numbers_shown r e = rw (six, least) (numbers_show k items r ∙ ap {B = Option Items} some e)
+  numbers_shown r e = rw (six, least) (numbers_show k items r ∙ ap {B = Option Items} Some e)
 
-  pub numbers_read_lem : numbers (suc k) (show_numbers (suc k) items) ≡ some items → keep (suc k) items ≡ items
+  pub numbers_read_lem : numbers (suc k) (show_numbers (suc k) items) ≡ Some items → keep (suc k) items ≡ items
   unfolding numbers show_numbers
   numbers_read_lem e =
       let q = rw (six, least) at e in
-      let z : ◌≡◌ {A = Option Items} (some (keep (suc k) items)) (some items) =
+      let z : ◌≡◌ {A = Option Items} (Some (keep (suc k) items)) (Some items) =
       sym (numbers_show k items (numbers_back k (shown (suc k) items) items h q).1) ∙ q in
       cc
 

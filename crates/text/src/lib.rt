@@ -3,18 +3,11 @@
 
 ghost use Rattle.std.specs.Prelude.{◌≤◌, ◌≡◌};
 ghost use Rattle.text.specs.Texts.{place, starts_with, same, part};
-ghost use Rattle.text.specs.Numbers.{number, number_read, in_range, digits};
-ghost use Rattle.text.specs.Lists.{one_item, more_item, spelled, numbers, numbers_read};
+ghost use Rattle.text.specs.Numbers.{number, in_range, digits};
+ghost use Rattle.text.specs.Lists.{one_item, more_item, spelled, numbers};
 ghost use Rattle.text.specs.Lines.{line, value_at};
 
-// What a text spells: a number, or none.
-#[derive(Clone, Copy)]
-pub enum Number {
-    Value(u32),
-    NoNumber,
-}
-
-// Up to six numbers; those that are not used are 0.
+// Up to six numbers; those that are not used are 0. They are no array: each is read by a name, which is always there, and not by an index, which needs a proof.
 #[derive(Clone, Copy)]
 pub struct Items {
     pub a: u32,
@@ -25,18 +18,12 @@ pub struct Items {
     pub f: u32,
 }
 
-// What a text spells: a list of numbers, or none.
-#[derive(Clone, Copy)]
-pub enum Numbers {
-    These(Items),
-    NoNumbers,
-}
-
 // A line with its key: where its value starts and ends, and where the next line starts.
 #[derive(Clone, Copy)]
-pub enum Line {
-    Value(usize, usize, usize),
-    NoLine,
+pub struct Line {
+    pub start: usize,
+    pub end: usize,
+    pub next: usize,
 }
 
 // ---- values of numbers
@@ -75,170 +62,110 @@ pub fn more_item(x: u32, items: Items) -> Items
 pub fn find(t: &[u8], b: u8) -> usize
     ensures { result ≡ place b t.now }
 {
-    let mut i = 0;
-    while i < t.len() {
-        if t[i] == b {
-            return i;
-        }
-        i += 1;
-    }
-    i
+    t.iter().position(|x| *x == b).unwrap_or(t.len())
 }
 
 // Whether the text starts with w.
+#[tactic(auto, using(crate::proofs::TextLaws::starts_is))]
 pub fn starts(t: &[u8], w: &[u8]) -> bool
     ensures { result ≡ starts_with w.now t.now }
 {
-    if t.len() < w.len() {
-        return false;
-    }
-    let mut i = 0;
-    while i < w.len() {
-        if t[i] != w[i] {
-            return false;
-        }
-        i += 1;
-    }
-    true
+    t.starts_with(w)
 }
 
 // Whether the text is w.
-#[tactic(auto, using(crate::proofs::TextLaws::same_not, crate::proofs::TextLaws::same_front))]
+#[tactic(auto, using(crate::proofs::TextLaws::same_is))]
 pub fn is_text(t: &[u8], w: &[u8]) -> bool
     ensures { result ≡ same w.now t.now }
 {
-    if t.len() != w.len() {
-        return false;
-    }
-    starts(t, w)
+    t == w
 }
 
 // The bytes from a up to e, as far as the text goes.
 pub fn part_of(s: &[u8], a: usize, e: usize) -> &[u8]
     ensures { result.now ≡ part s.now a e }
 {
-    let n = s.len();
-    if n < a {
-        return &s[..0];
-    }
-    if e < a {
-        return &s[..0];
-    }
-    if n < e {
-        return &s[a..];
-    }
-    &s[a..e]
+    s.get(a..e.min(s.len())).unwrap_or(&[])
 }
 
 // ---- reading
 
-fn wide(b: u8) -> u64
-    ensures { result ≡ b }
-{
-    b as u64
-}
-
 // The value of a text of digits, up to the largest number.
-fn read_digits(t: &[u8]) -> Number
-    ensures { number_read result ≡ in_range (digits 0 t.now) }
+fn read_digits(t: &[u8]) -> Option<u32>
+    ensures { result ≡ in_range (digits 0 t.now) }
 {
-    let mut value: u64 = 0;
-    let mut i = 0;
-    while i < t.len() {
-        let b = wide(t[i]);
-        if b < 48 {
-            return Number::NoNumber;
+    let mut value: u32 = 0;
+    for b in t {
+        if !b.is_ascii_digit() {
+            return None;
         }
-        if 57 < b {
-            return Number::NoNumber;
-        }
-        value = value * 10 + (b - 48);
-        if 4294967295 < value {
-            return Number::NoNumber;
-        }
-        i += 1;
+        value = value.checked_mul(10)?.checked_add(u32::from(b - b'0'))?;
     }
-    Number::Value(value as u32)
+    Some(value)
 }
 
 // The number that a whole text spells.
-#[tactic(auto, using(crate::proofs::ReadLaws::zero_first))]
-pub fn read_number(t: &[u8]) -> Number
-    ensures { number_read result ≡ number t.now }
+pub fn read_number(t: &[u8]) -> Option<u32>
+    ensures { result ≡ number t.now }
 {
-    let n = t.len();
-    if n == 0 {
-        return Number::NoNumber;
-    }
-    if n == 1 {
-        return read_digits(t);
-    }
-    if t[0] == 48 {
-        return Number::NoNumber;
+    let (first, rest) = t.split_first()?;
+    if *first == b'0' && !rest.is_empty() {
+        return None;
     }
     read_digits(t)
 }
 
 // The list of so many numbers that a whole text spells: the first, then the others.
-fn spelled_numbers(t: &[u8], count: usize) -> Numbers
+fn spelled_numbers(t: &[u8], count: usize) -> Option<Items>
     requires { count ≤ 6 }
-    ensures { numbers_read result ≡ spelled count t.now }
+    ensures { result ≡ spelled count t.now }
 {
     if count == 0 {
-        return Numbers::NoNumbers;
+        return None;
     }
     if count == 1 {
-        let Number::Value(x) = read_number(t) else {
-            return Numbers::NoNumbers;
-        };
-        return Numbers::These(one_item(x));
+        return Some(one_item(read_number(t)?));
     }
-    let comma = find(t, 44);
+    let comma = find(t, b',');
     if t.len() <= comma {
-        return Numbers::NoNumbers;
+        return None;
     }
-    let Number::Value(x) = read_number(&t[..comma]) else {
-        return Numbers::NoNumbers;
-    };
-    let Numbers::These(items) = spelled_numbers(&t[comma + 1..], count - 1) else {
-        return Numbers::NoNumbers;
-    };
-    Numbers::These(more_item(x, items))
+    let x = read_number(&t[..comma])?;
+    let items = spelled_numbers(&t[comma + 1..], count - 1)?;
+    Some(more_item(x, items))
 }
 
 // The list of so many numbers, up to six, that a whole text spells.
-pub fn read_numbers(t: &[u8], count: usize) -> Numbers
-    ensures { numbers_read result ≡ numbers count t.now }
+pub fn read_numbers(t: &[u8], count: usize) -> Option<Items>
+    ensures { result ≡ numbers count t.now }
 {
     if 6 < count {
-        return Numbers::NoNumbers;
+        return None;
     }
     spelled_numbers(t, count)
 }
 
 // The value that starts at a place: up to the line's end.
-fn value_at(s: &[u8], start: usize) -> Line
+fn value_at(s: &[u8], start: usize) -> Option<Line>
     ensures { result ≡ value_at s.now start }
 {
-    if s.len() < start {
-        return Line::NoLine;
-    }
-    let end = start + find(&s[start..], 10);
+    let end = start + find(s.get(start..)?, b'\n');
     if end < s.len() {
-        return Line::Value(start, end, end + 1);
+        return Some(Line {
+            start,
+            end,
+            next: end + 1,
+        });
     }
-    Line::NoLine
+    None
 }
 
 // The line at a place, where it has the key and an end.
-pub fn read_line(s: &[u8], at: usize, key: &[u8]) -> Line
+pub fn read_line(s: &[u8], at: usize, key: &[u8]) -> Option<Line>
     ensures { result ≡ line key.now s.now at }
 {
-    if s.len() < at {
-        return Line::NoLine;
-    }
-    if starts(&s[at..], key) {
+    if starts(s.get(at..)?, key) {
         return value_at(s, at + key.len());
     }
-    Line::NoLine
+    None
 }

@@ -3,10 +3,10 @@ use Prim.Native.Nat.{ℕ, zero, suc, ◌+◌, ◌-◌, ◌≤◌, ◌<◌}
 use mathlib.Core.Path.{◌≡◌, refl, sym, ◌∙◌}
 use mathlib.Core.List.{List, [], ◌∷◌, ◌++◌}
 use mathlib.Core.Bool.{Bool, true, false, cond, false≢true}
-use mathlib.Core.Option.{some, none}
-use native.Mathlib.Numerals.{add-one, sub-one}
+use Rattle.std.specs.Prelude.{Some, None}
+use native.Mathlib.Numerals.{add-one}
 use native.Mathlib.Omega.{arith}
-use lib.Dec.{eqb}
+use lib.Dec.{eqb, eqb-suc-zero}
 use lib.ListN.{length, drop, take, take-append-drop}
 use Rattle.text.specs.Texts.{place, same}
 use Rattle.text.specs.Lists.{one_item, last_number}
@@ -17,30 +17,29 @@ use Rattle.text.proofs.ListLaws.{some_last}
 use Rattle.values.specs.Words.{later_words, word_at, word_from, word_place}
 
 -- ---- the steps of word_at and word_place
-pub word_later : (k : ℕ) (table : List ℕ) → (k ≡ 0 → ⊥) → word_at (k - 1) (later_words table) ≡ word_at k table
+pub word_later : (k i : ℕ) (table : List ℕ) → i < k → word_at (k - (i + 1)) (later_words table) ≡ word_at (k - i) table
 unfolding word_at
-word_later zero table h = absurd (h refl)
-word_later (suc k) table h = rw (sub-one (suc k))
+word_later k i table h = let n : k - i ≡ suc (k - (i + 1)) = omega arith in rw n
 
-pub word_none : (k : ℕ) (table : List ℕ) → length table ≡ 0 → table ≡ word_at k table
+pub word_none : (k : ℕ) (table : List ℕ) → true ≡ eqb (length table) 0 → table ≡ word_at k table
 unfolding word_at place
 word_none zero [] h = refl
 word_none (suc k) [] h = word_none k [] refl
-word_none k (b ∷ table) h = absurd (omega (arith, h))
+word_none k (b ∷ table) h = absurd (false≢true (sym (h ∙ eqb-suc-zero (length table))))
 
 module _ (count k : ℕ) (table t : List ℕ) where
   module _ (w : List ℕ) (h : k < count) (e : w ≡ word_at k table) where
-    word_step : word_from (count - k) k table t ≡ cond (same w t) (some k) (word_from (count - (k + 1)) (k + 1) table t)
+    word_step : word_from (count - k) k table t ≡ cond (same w t) (Some k) (word_from (count - (k + 1)) (k + 1) table t)
     unfolding word_from
     word_step = let n : count - k ≡ suc (count - (k + 1)) = omega arith in rw (n, add-one k, e)
 
-    pub word_here : same w t ≡ true → word_from (count - k) k table t ≡ some k
-    word_here s = word_step ∙ rw s
+    pub word_here : true ≡ same w t → word_from (count - k) k table t ≡ Some k
+    word_here s = word_step ∙ rw (sym s)
 
-    pub word_next : same w t ≡ false → word_from (count - k) k table t ≡ word_from (count - (k + 1)) (k + 1) table t
-    word_next s = word_step ∙ rw s
+    pub word_next : false ≡ same w t → word_from (count - k) k table t ≡ word_from (count - (k + 1)) (k + 1) table t
+    word_next s = word_step ∙ rw (sym s)
 
-  pub word_end : count ≤ k → word_from (count - k) k table t ≡ none
+  pub word_end : count ≤ k → word_from (count - k) k table t ≡ None
   unfolding word_from
   word_end h = let n : count - k ≡ 0 = omega arith in rw n
 
@@ -55,26 +54,26 @@ any_place : (left k : ℕ) → Each (λ (n : ℕ). Unit {0}) left k
 any_place zero k = tt
 any_place (suc left) k = (tt, any_place left (suc k))
 
-word_found : (P : ℕ → Type 0) (left k : ℕ) (table t : List ℕ) (n : ℕ) → Each P left k → word_from left k table t ≡ some n → (t ≡ word_at n table) × P n
+word_found : (P : ℕ → Type 0) (left k : ℕ) (table t : List ℕ) (n : ℕ) → Each P left k → word_from left k table t ≡ Some n → (t ≡ word_at n table) × P n
 unfolding word_from
 word_found P zero k table t n each e = absurd (false≢true cc)
 word_found P (suc left) k table t n each e = go (same (word_at k table) t) refl e (word_found P left (suc k) table t n each.1)
   where
-    go : (b : Bool) → same (word_at k table) t ≡ b → cond b (some k) (word_from left (suc k) table t) ≡ some n
-        → (word_from left (suc k) table t ≡ some n → (t ≡ word_at n table) × P n) → (t ≡ word_at n table) × P n
+    go : (b : Bool) → same (word_at k table) t ≡ b → cond b (Some k) (word_from left (suc k) table t) ≡ Some n
+        → (word_from left (suc k) table t ≡ Some n → (t ≡ word_at n table) × P n) → (t ≡ word_at n table) × P n
     go true p q ih = let z : k ≡ n = cc in rw (← z) (same_text (word_at k table) t p, each.0)
     go false p q ih = ih q
 
 -- what holds of each place of the table holds of a word that was read
 pub word_each : (count : ℕ) (table : List ℕ) (P : Items → Type 0) → Each (λ (k : ℕ). P (one_item k)) count 0
-    → (t : List ℕ) (v : Items) → last_number (word_place count table t) ≡ some v → P v
+    → (t : List ℕ) (v : Items) → last_number (word_place count table t) ≡ Some v → P v
 word_each count table P each t v e =
     let s = some_last (word_place count table t) v e in
     rw s.2 (word_found (λ (k : ℕ). P (one_item k)) count 0 table t s.0 each s.1).1
 
 -- f gives back the numbers of a word where it gives back each place of the table
 pub word_back : (count : ℕ) (table : List ℕ) (f : Items → Items) → Each (λ (k : ℕ). f (one_item k) ≡ one_item k) count 0
-    → (t : List ℕ) (v : Items) → last_number (word_place count table t) ≡ some v → f v ≡ v
+    → (t : List ℕ) (v : Items) → last_number (word_place count table t) ≡ Some v → f v ≡ v
 word_back count table f each t v e = word_each count table (λ items. f items ≡ items) each t v e
 
 -- ---- a byte that a text does not have stands in no part of it
@@ -102,7 +101,7 @@ pub word_inverse : (count : ℕ) (table : List ℕ) → place 10 table ≡ lengt
     → Inverse (λ (t : List ℕ). last_number (word_place count table t)) (λ (items : Items). word_at items.a table)
 word_inverse count table h = record { shown_read = back; one_line = λ v. word_absent 10 v.a table h }
   where
-    back : (t : List ℕ) (v : Items) → last_number (word_place count table t) ≡ some v → word_at v.a table ≡ t
+    back : (t : List ℕ) (v : Items) → last_number (word_place count table t) ≡ Some v → word_at v.a table ≡ t
     back t v e =
         let s = some_last (word_place count table t) v e in
         rw s.2 (sym (word_found (λ (n : ℕ). Unit {0}) count 0 table t s.0 (any_place count 0) s.1).0)

@@ -1,12 +1,14 @@
 -- The values of a sheet's lines, as they are read and as they are shown. A value is up to six numbers: those of a list; of a word its place in its table; of an
 -- axis its digit, and 1 after a minus.
 use Rattle.std.specs.Prelude.{ℕ, ◌-◌, List, [], ◌∷◌, Bool, cond, ◌&&◌, leb, eqb}
-use Rattle.std.proofs.Math.Option.{Option, some, none}
+use Rattle.std.specs.Prelude.{Option, Some, None}
 use Rattle.text.specs.Texts.{text}
 use Rattle.text.specs.Numbers.{number, decimal}
 use Rattle.text.specs.Lists.{numbers, show_numbers, last_number}
 use Rattle.text.specs.declared.Items.{Items}
 use Rattle.layer.specs.Axes.{axes_in}
+use Rattle.layer.specs.declared.SheetError.{SheetError}
+use Rattle.layer.specs.declared.SheetError.TheVariants.{Number, Word}
 use Rattle.values.specs.Words.{word_at, word_place}
 use Rattle.values.specs.declared.Field.{Field}
 use Rattle.values.specs.declared.Field.TheVariants.{VersionWord, OpWord, AxesNumber, NumberList, AutoPadWord, RoundingWord, AxisDigit}
@@ -52,21 +54,21 @@ word_count AxisDigit = 0
 
 -- "axes other than 1, 2 and 3 .. included"
 unfoldable pub axes_number : Option ℕ → Option ℕ
-axes_number none = none
-axes_number (some n) = cond (axes_in n) (some n) none
+axes_number None = None
+axes_number (Some n) = cond (axes_in n) (Some n) None
 
 -- "axis is -9..9 in one digit, never -0": a digit, 48 to 57, or a minus, 45, and a digit from 49 on
 abbrev pub signed : ℕ → ℕ → Items
 signed digit minus = record { a = digit; b = minus; c = 0; d = 0; e = 0; f = 0 }
 
 abbrev pub digit_from : ℕ → ℕ → ℕ → Option Items
-digit_from low minus b = cond (leb low b) (cond (leb b 57) (some (signed (b - 48) minus)) none) none
+digit_from low minus b = cond (leb low b) (cond (leb b 57) (Some (signed (b - 48) minus)) None) None
 
 unfoldable pub axis_number : List ℕ → Option Items
-axis_number [] = none
+axis_number [] = None
 axis_number (b ∷ []) = digit_from 48 0 b
-axis_number (a ∷ b ∷ []) = cond (eqb a 45) (digit_from 49 1 b) none
-axis_number (a ∷ b ∷ c ∷ t) = none
+axis_number (a ∷ b ∷ []) = cond (eqb a 45) (digit_from 49 1 b) None
+axis_number (a ∷ b ∷ c ∷ t) = None
 
 abbrev pub show_axis : Items → List ℕ
 show_axis items = cond (eqb items.b 0) (decimal items.a) (45 ∷ decimal items.a)
@@ -94,14 +96,14 @@ show_field (RoundingWord version) items = word_at items.a (words (RoundingWord v
 show_field AxisDigit items = show_axis items
 
 -- "21 a number, or a count of numbers, that breaks the rules, .. and a version line other than `version=14` included"; "22 unknown word"
-abbrev pub unread : Field → ℕ
-unread VersionWord = 21
-unread OpWord = 22
-unread AxesNumber = 21
-unread (NumberList count) = 21
-unread AutoPadWord = 22
-unread (RoundingWord version) = 22
-unread AxisDigit = 21
+abbrev pub unread : Field → SheetError
+unread VersionWord = Number
+unread OpWord = Word
+unread AxesNumber = Number
+unread (NumberList count) = Number
+unread AutoPadWord = Word
+unread (RoundingWord version) = Word
+unread AxisDigit = Number
 
 -- the default of a line that only some operators use: "output padding 0" on every axis, "rounding floor", which is the first word, "axis 0"
 abbrev pub is_default_value : Items → Bool

@@ -1,6 +1,6 @@
 -- Tables of words, with a comma between two: the word at a place, and the place of a word, counted from 0.
 use Rattle.std.specs.Prelude.{ℕ, zero, suc, List, cond, take, drop}
-use Rattle.std.proofs.Math.Option.{Option, some, none}
+use Rattle.std.specs.Prelude.{Option, Some, None}
 use Rattle.text.specs.Texts.{place, same}
 
 -- the first word, and the table of those after it
@@ -16,8 +16,8 @@ word_at (suc k) table = word_at k (later_words table)
 
 -- the first place from k on, of so many, where the table has the word t
 unfoldable pub word_from : ℕ → ℕ → List ℕ → List ℕ → Option ℕ
-word_from zero k table t = none
-word_from (suc left) k table t = cond (same (word_at k table) t) (some k) (word_from left (suc k) table t)
+word_from zero k table t = None
+word_from (suc left) k table t = cond (same (word_at k table) t) (Some k) (word_from left (suc k) table t)
 
 -- the place of the word t in a table of so many words
 abbrev pub word_place : ℕ → List ℕ → List ℕ → Option ℕ

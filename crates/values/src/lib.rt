@@ -2,16 +2,16 @@
 #![tactic(auto)]
 
 ghost use Rattle.std.specs.Prelude.{◌≤◌, ◌≡◌};
-ghost use Rattle.text.specs.Lists.{numbers_read, last_number};
+ghost use Rattle.text.specs.Lists.{last_number};
 ghost use Rattle.text.specs.Numbers.{number};
 ghost use Rattle.print.specs.Put.{Put};
 ghost use Rattle.values.specs.Words.{later_words, word_at, word_place};
-ghost use Rattle.values.specs.Values.{rounding_count, words, word_count, axes_number, signed, digit_from, axis_number, show_axis, field_value, show_field, unread, is_default_value};
+ghost use Rattle.values.specs.Values.{words, word_count, axes_number, signed, digit_from, axis_number, show_axis, field_value, show_field, unread, is_default_value};
 ghost use Rattle.values.specs.Kinds.{op_of, op_items, auto_pad_of, auto_pad_items, rounding_of, rounding_items, axis_of, axis_items};
 
-use layer::{AutoPad, Op, Rounding, axes_in};
+use layer::{AutoPad, Op, Rounding, SheetError, axes_in};
 use print::{put_byte, put_number, put_numbers, put_text};
-use text::{Items, Number, Numbers, find, is_text, one_item, part_of, read_number, read_numbers};
+use text::{Items, find, is_text, one_item, part_of, read_number, read_numbers};
 
 // What a line's value is: a word of a table (of roundings, those that a version knows), the number of axes, a list of so many numbers, or an axis.
 #[derive(Clone, Copy)]
@@ -45,7 +45,7 @@ fn signed(digit: u32, minus: u32) -> Items
 fn later_words(table: &[u8]) -> &[u8]
     ensures { result.now ≡ later_words table.now }
 {
-    part_of(table, find(table, 44) + 1, table.len())
+    part_of(table, find(table, b',') + 1, table.len())
 }
 
 // The word at a place of a table; none past its end.
@@ -53,155 +53,132 @@ fn word_at(table: &[u8], place: u32) -> &[u8]
     ensures { result.now ≡ word_at place table.now }
 {
     let mut rest = table;
-    let mut left = place;
-    while left != 0 {
-        if rest.len() == 0 {
+    for _ in 0..place {
+        if rest.is_empty() {
             return rest;
         }
-        let later = later_words(rest);
-        rest = later;
-        left -= 1;
+        rest = later_words(rest);
     }
-    part_of(rest, 0, find(rest, 44))
+    part_of(rest, 0, find(rest, b','))
 }
 
 // The place of a word in a table of so many words.
-fn word_place(t: &[u8], table: &[u8], count: u32) -> Numbers
-    ensures { numbers_read result ≡ last_number (word_place count table.now t.now) }
+fn word_place(t: &[u8], table: &[u8], count: u32) -> Option<u32>
+    ensures { result ≡ word_place count table.now t.now }
 {
-    let mut place = 0;
-    while place < count {
+    for place in 0..count {
         if is_text(t, word_at(table, place)) {
-            return Numbers::These(one_item(place));
+            return Some(place);
         }
-        place += 1;
     }
-    Numbers::NoNumbers
+    None
 }
 
-// How many roundings a version knows.
-fn rounding_count(version: u32) -> u32
-    ensures { result ≡ rounding_count version }
-{
-    if version == 8 { 2 } else { 3 }
-}
-
-// The place of a word in the table of its field. The tables stand in functions of their own, so that reading a list does not take their stack.
-fn read_word(t: &[u8], field: Field) -> Numbers
-    ensures { numbers_read result ≡ last_number (word_place (word_count field) (words field) t.now) }
+// The table of a field's words; a field of numbers has none.
+fn words(field: Field) -> &'static [u8]
+    ensures { result.now ≡ words field }
 {
     match field {
-        Field::VersionWord => word_place(t, b"14", 1),
-        Field::OpWord => word_place(t, b"convolution,transposed,maxpool", 3),
-        Field::AxesNumber => Numbers::NoNumbers,
-        Field::NumberList(_) => Numbers::NoNumbers,
-        Field::AutoPadWord => word_place(t, b"explicit,same_upper,same_lower,valid", 4),
-        Field::RoundingWord(version) => word_place(
-            t,
-            b"floor,ceil,ceil_torch",
-            rounding_count(version),
-        ),
-        Field::AxisDigit => Numbers::NoNumbers,
+        Field::VersionWord => b"14",
+        Field::OpWord => b"convolution,transposed,maxpool",
+        Field::AutoPadWord => b"explicit,same_upper,same_lower,valid",
+        Field::RoundingWord(_) => b"floor,ceil,ceil_torch",
+        Field::AxesNumber | Field::NumberList(_) | Field::AxisDigit => b"",
     }
+}
+
+// How many of them are read.
+fn word_count(field: Field) -> u32
+    ensures { result ≡ word_count field }
+{
+    match field {
+        Field::VersionWord => 1,
+        Field::OpWord => 3,
+        Field::AutoPadWord => 4,
+        Field::RoundingWord(8) => 2,
+        Field::RoundingWord(_) => 3,
+        Field::AxesNumber | Field::NumberList(_) | Field::AxisDigit => 0,
+    }
+}
+
+// The place of a word in the table of its field.
+#[tactic(auto, unfolding(text::specs::Lists::last_number))]
+fn read_word(t: &[u8], field: Field) -> Option<Items>
+    ensures { result ≡ last_number (word_place (word_count field) (words field) t.now) }
+{
+    let place = word_place(t, words(field), word_count(field))?;
+    Some(one_item(place))
 }
 
 // The word at a place in the table of its field.
 fn put_word(buf: &mut [u8], at: usize, field: Field, place: u32) -> usize
     ensures { Put buf.old at (word_at place (words field)) result buf.new }
 {
-    match field {
-        Field::VersionWord => put_text(buf, at, word_at(b"14", place)),
-        Field::OpWord => put_text(buf, at, word_at(b"convolution,transposed,maxpool", place)),
-        Field::AxesNumber => put_text(buf, at, word_at(b"", place)),
-        Field::NumberList(_) => put_text(buf, at, word_at(b"", place)),
-        Field::AutoPadWord => put_text(
-            buf,
-            at,
-            word_at(b"explicit,same_upper,same_lower,valid", place),
-        ),
-        Field::RoundingWord(_) => put_text(buf, at, word_at(b"floor,ceil,ceil_torch", place)),
-        Field::AxisDigit => put_text(buf, at, word_at(b"", place)),
-    }
+    put_text(buf, at, word_at(words(field), place))
 }
 
 // ---- reading
 
-fn axes_number(t: &[u8]) -> Numbers
-    ensures { numbers_read result ≡ last_number (axes_number (number t.now)) }
+fn axes_number(t: &[u8]) -> Option<Items>
+    ensures { result ≡ last_number (axes_number (number t.now)) }
 {
-    let Number::Value(n) = read_number(t) else {
-        return Numbers::NoNumbers;
-    };
+    let n = read_number(t)?;
     if axes_in(n) {
-        return Numbers::These(one_item(n));
+        return Some(one_item(n));
     }
-    Numbers::NoNumbers
+    None
 }
 
 // A digit from low on.
-fn axis_digit(low: u8, minus: u32, b: u8) -> Numbers
+fn axis_digit(low: u8, minus: u32, b: u8) -> Option<Items>
     requires { 48 ≤ low }
-    ensures { numbers_read result ≡ digit_from low minus b }
+    ensures { result ≡ digit_from low minus b }
 {
-    if b < low {
-        return Numbers::NoNumbers;
+    if !(low..=b'9').contains(&b) {
+        return None;
     }
-    if 57 < b {
-        return Numbers::NoNumbers;
-    }
-    Numbers::These(signed((b - 48) as u32, minus))
+    Some(signed(u32::from(b - b'0'), minus))
 }
 
-fn axis_number(t: &[u8]) -> Numbers
-    ensures { numbers_read result ≡ axis_number t.now }
+fn axis_number(t: &[u8]) -> Option<Items>
+    ensures { result ≡ axis_number t.now }
 {
-    let n = t.len();
-    if n == 1 {
-        return axis_digit(48, 0, t[0]);
+    match t {
+        [b] => axis_digit(b'0', 0, *b),
+        [b'-', b] => axis_digit(b'1', 1, *b),
+        _ => None,
     }
-    if n != 2 {
-        return Numbers::NoNumbers;
-    }
-    if t[0] == 45 {
-        return axis_digit(49, 1, t[1]);
-    }
-    Numbers::NoNumbers
 }
 
 // What a text spells as a value of a field.
-pub fn value_of(t: &[u8], field: Field) -> Numbers
-    ensures { numbers_read result ≡ field_value field t.now }
+#[tactic(auto, unfolding(crate::specs::Values::field_value))]
+pub fn value_of(t: &[u8], field: Field) -> Option<Items>
+    ensures { result ≡ field_value field t.now }
 {
     match field {
-        Field::VersionWord => read_word(t, field),
-        Field::OpWord => read_word(t, field),
+        Field::VersionWord | Field::OpWord | Field::AutoPadWord | Field::RoundingWord(_) =>
+            read_word(t, field),
         Field::AxesNumber => axes_number(t),
         Field::NumberList(count) => read_numbers(t, count),
-        Field::AutoPadWord => read_word(t, field),
-        Field::RoundingWord(_) => read_word(t, field),
         Field::AxisDigit => axis_number(t),
     }
 }
 
-// The number of a value that breaks its rules.
-pub fn unread_number(field: Field) -> u32
+// What a value that breaks its rules is refused with.
+pub fn unread_error(field: Field) -> SheetError
     ensures { result ≡ unread field }
 {
     match field {
-        Field::VersionWord => 21,
-        Field::OpWord => 22,
-        Field::AxesNumber => 21,
-        Field::NumberList(_) => 21,
-        Field::AutoPadWord => 22,
-        Field::RoundingWord(_) => 22,
-        Field::AxisDigit => 21,
+        Field::OpWord | Field::AutoPadWord | Field::RoundingWord(_) => SheetError::Word,
+        Field::VersionWord | Field::AxesNumber | Field::NumberList(_) | Field::AxisDigit =>
+            SheetError::Number,
     }
 }
 
 pub fn is_default_value(items: Items) -> bool
     ensures { result ≡ is_default_value items }
 {
-    (items.a == 0) & (items.b == 0) & (items.c == 0)
+    items.a == 0 && items.b == 0 && items.c == 0
 }
 
 // ---- writing
@@ -212,37 +189,34 @@ fn put_axis(buf: &mut [u8], at: usize, items: Items) -> usize
     if items.b == 0 {
         return put_number(buf, at, items.a);
     }
-    let digit = put_byte(buf, at, 45);
+    let digit = put_byte(buf, at, b'-');
     put_number(buf, digit, items.a)
 }
 
 // The text of a value, from a place on.
+#[tactic(auto, unfolding(crate::specs::Values::show_field))]
 pub fn put_value(buf: &mut [u8], at: usize, field: Field, items: Items) -> usize
     ensures { Put buf.old at (show_field field items) result buf.new }
 {
     match field {
-        Field::VersionWord => put_word(buf, at, field, items.a),
-        Field::OpWord => put_word(buf, at, field, items.a),
+        Field::VersionWord | Field::OpWord | Field::AutoPadWord | Field::RoundingWord(_) =>
+            put_word(buf, at, field, items.a),
         Field::AxesNumber => put_number(buf, at, items.a),
         Field::NumberList(count) => put_numbers(buf, at, count, items),
-        Field::AutoPadWord => put_word(buf, at, field, items.a),
-        Field::RoundingWord(_) => put_word(buf, at, field, items.a),
         Field::AxisDigit => put_axis(buf, at, items),
     }
 }
 
-// ---- values that are no numbers in the layer record
+// ---- values that are no numbers in the layer record. They are functions and no impls of From: the types are of other crates, so an impl may not stand here.
 
 pub fn op_of(items: Items) -> Op
     ensures { result ≡ op_of items }
 {
-    if items.a == 0 {
-        return Op::Convolution;
+    match items.a {
+        0 => Op::Convolution,
+        1 => Op::Transposed,
+        _ => Op::MaxPool,
     }
-    if items.a == 1 {
-        return Op::Transposed;
-    }
-    Op::MaxPool
 }
 
 pub fn op_items(op: Op) -> Items
@@ -258,16 +232,12 @@ pub fn op_items(op: Op) -> Items
 pub fn auto_pad_of(items: Items) -> AutoPad
     ensures { result ≡ auto_pad_of items }
 {
-    if items.a == 0 {
-        return AutoPad::Explicit;
+    match items.a {
+        0 => AutoPad::Explicit,
+        1 => AutoPad::SameUpper,
+        2 => AutoPad::SameLower,
+        _ => AutoPad::Valid,
     }
-    if items.a == 1 {
-        return AutoPad::SameUpper;
-    }
-    if items.a == 2 {
-        return AutoPad::SameLower;
-    }
-    AutoPad::Valid
 }
 
 pub fn auto_pad_items(mode: AutoPad) -> Items
@@ -284,13 +254,11 @@ pub fn auto_pad_items(mode: AutoPad) -> Items
 pub fn rounding_of(items: Items) -> Rounding
     ensures { result ≡ rounding_of items }
 {
-    if items.a == 0 {
-        return Rounding::Floor;
+    match items.a {
+        0 => Rounding::Floor,
+        1 => Rounding::Ceil,
+        _ => Rounding::CeilTorch,
     }
-    if items.a == 1 {
-        return Rounding::Ceil;
-    }
-    Rounding::CeilTorch
 }
 
 pub fn rounding_items(rounding: Rounding) -> Items
@@ -306,21 +274,15 @@ pub fn rounding_items(rounding: Rounding) -> Items
 pub fn axis_of(items: Items) -> i32
     ensures { result ≡ axis_of items }
 {
-    let digit = items.a;
-    if 9 < digit {
+    if 9 < items.a {
         return 0;
     }
-    if items.b == 0 {
-        return digit as i32;
-    }
-    -(digit as i32)
+    let digit = items.a as i32;
+    if items.b == 0 { digit } else { -digit }
 }
 
 pub fn axis_items(axis: i32) -> Items
     ensures { result ≡ axis_items axis }
 {
-    if axis < 0 {
-        return signed((-1 - axis) as u32 + 1, 1);
-    }
-    signed(axis as u32, 0)
+    signed(axis.unsigned_abs(), u32::from(axis < 0))
 }

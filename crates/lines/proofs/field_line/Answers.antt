@@ -1,25 +1,24 @@
 -- `field_line` meets its contract: the line is missing, its value is not read, or read.
-use mathlib.Core.Path.{sym, ◌∙◌}
-use Rattle.text.specs.Lines.{value_read}
-use Rattle.text.specs.Lists.{numbers_read}
-use Rattle.text.proofs.TextLaws.{told}
-use Rattle.text.proofs.LineLaws.{line_missing, line_there}
+use Rattle.std.proofs.lemmas.Result.{err_from_is_err_and}
+use Rattle.text.proofs.LineLaws.{line_missing, line_unread, line_read}
 use Rattle.lines.specs.Lines.{field_line}
 use Rattle.lines.proofs.field_line.Goals as goal
 
-pub returns-in_default : goal.returns-in_default
+pub returns-in_err-line : goal.returns-in_err-line
 unfolding field_line
-returns-in_default c = line_missing _ _ _ _ _ _ (sym c.read_line.ensures ∙ c.in_default.is)
+returns-in_err-line c =
+    let p = err_from_is_err_and c.from_residual.result c.from_residual.ensures.1 in
+    rw (p.1, p.2) (line_missing _ _ _ _ _ _ _ c.read_line.ensures c.in_err-line.ensures.value)
 
-pub returns-in_default-value_of : goal.returns-in_default-value_of
-unfolding field_line value_read
-returns-in_default-value_of c =
-    rw c.unread_number.ensures
-    (line_there _ _ _ _ _ _ _ _ _ (sym c.read_line.ensures ∙ c.in-Value.is) c.part_of.ensures
-    (sym (rw (told numbers_read c.value_of.ensures c.in_default-value_of.is))))
+pub returns-in_err-items : goal.returns-in_err-items
+unfolding field_line
+returns-in_err-items c =
+    let p = err_from_is_err_and c.from_residual-in_err-items.result c.from_residual-in_err-items.ensures.1 in
+    rw (p.1, p.2)
+    (line_unread _ _ _ _ _ _ _ c.read_line.ensures c.in_ok-line.ensures.value c.part_of-value.ensures _ c.value_of.ensures c.unread_error.ensures
+    c.in_err-items.ensures.value)
 
 pub returns : goal.returns
-unfolding field_line value_read
+unfolding field_line
 returns c =
-    line_there _ _ _ _ _ _ _ _ _ (sym c.read_line.ensures ∙ c.in-Value.is) c.part_of.ensures
-    (sym (rw (told numbers_read c.value_of.ensures c.in-These.is)))
+    line_read _ _ _ _ _ _ _ c.read_line.ensures c.in_ok-line.ensures.value c.part_of-value.ensures _ _ c.value_of.ensures c.in_ok-items.ensures.value

@@ -1,19 +1,21 @@
--- `line_at` meets its contract: bad, taken, or not.
-use Rattle.text.proofs.TextLaws.{told}
-use Rattle.lines.specs.Lines.{parsed, unless_taken}
-use Rattle.lines.proofs.StepLaws.{taken_line, left_line}
+-- `line_at` meets its contract: the line is not read, taken, or not.
+use Rattle.std.proofs.lemmas.Result.{err_from_is_err_and}
+use Rattle.lines.proofs.StepLaws.{taken_line, left_line, none_taken}
 use Rattle.lines.proofs.line_at.Goals as goal
+use Rattle.lines.proofs.line_at.Goals.{then-used-via-then-used, then-used-via-else-used+then-is_default_value}
 
-pub returns-in_default : goal.returns-in_default
-unfolding unless_taken
-returns-in_default c =
-    let x = told parsed c.field_line-r.ensures c.in_default.is in
-    rw (x, c.in_default.is)
+pub returns-in_err-items : goal.returns-in_err-items
+returns-in_err-items c =
+    let p = err_from_is_err_and c.from_residual.result c.from_residual.ensures.1 in
+    rw (p.1, p.2) (none_taken _ c.in_err-items.ensures)
 
-pub returns-then-used-is_default_value : goal.returns-then-used-is_default_value
-returns-then-used-is_default_value c =
-    taken_line _ (told parsed c.field_line-r.ensures c.in-LineAt.is) (rw c.is_default_value.ensures at c.if-used-is_default_value.true)
+pub returns-then-used : goal.returns-then-used
+returns-then-used c =
+    taken_line _ c.in_ok-items.ensures
+    (elim c.then-used.branch [
+      | then-used-via-then-used w ↦ rw w.if-used.true
+      | then-used-via-else-used+then-is_default_value w ↦ rw (w.if-used.false, ← w.if-is_default_value.ensures)
+    ])
 
 pub returns : goal.returns
-returns c =
-    left_line _ (told parsed c.field_line-r.ensures c.in-LineAt.is) (rw c.is_default_value.ensures at c.if-used-is_default_value.false)
+returns c = left_line _ c.in_ok-items.ensures (rw (c.if-used.false, ← c.if-is_default_value.ensures))

@@ -1,17 +1,12 @@
--- `find` meets its contract. The loop's invariant: the place in the whole is the bytes passed and the place in the rest.
-use borrow.Author.Rules.{rules}
-use native.Mathlib.Omega.{arith}
-use Rattle.text.proofs.TextLaws.{place_here, place_next, place_end}
+-- `find` meets its contract: `position` gives the first place of the byte.
+use Rattle.std.proofs.Common.{rules, tests, eqb}
+use Rattle.std.proofs.lemmas.Iterator.{YieldsList-from_slice}
+use Rattle.std.proofs.lemmas.Iterator.Search.{position_from_yields_List}
+use Rattle.text.proofs.TextLaws.{place_is, place_or}
 use Rattle.text.proofs.find.Goals as goal
-
-pub returns-then-t-i : goal.returns-then-t-i
-returns-then-t-i c =
-    omega (arith, place_here c.args.b c.args.t.now c.loop-i.i c.loop-i-test.true c.if-t-i.true)
-
-pub loop-i-preserved : goal.loop-i-preserved
-loop-i-preserved c =
-    (search rules, omega (arith, place_next c.args.b c.args.t.now c.loop-i.i c.loop-i-test.true c.if-t-i.false))
 
 pub returns : goal.returns
 returns c =
-    omega (arith, place_end c.args.b c.args.t.now c.loop-i.i c.loop-i-test.false)
+    let t = c.args.t.now in
+    let p = position_from_yields_List (λ x. eqb x c.args.b) _ _ c.position.result c.position.ensures.ran (YieldsList-from_slice t cc) (λ x b q k. search (rules, tests)) in
+    rw (c.unwrap_or.ensures, p, place_is c.args.b t) (place_or c.args.b t)

@@ -1,24 +1,26 @@
 -- `read_digits` meets its contract. The loop's invariant: the digits passed have the value, and the rest goes on from it.
-use borrow.Author.Rules.{rules}
-use mathlib.Core.Path.{sym, ◌∙◌}
-use Rattle.text.proofs.NumberLaws.{low, high, next, next_over, done}
+use Rattle.std.proofs.Common.{◌≡◌, ◌+◌, ◌-◌, ◌*◌, get_or, arith, sym, ◌∙◌}
+use Rattle.text.proofs.NumberLaws.{other, next, next_over, done}
 use Rattle.text.proofs.read_digits.Goals as goal
 
-pub returns-then-b-lt48 : goal.returns-then-b-lt48
-returns-then-b-lt48 c =
-    sym (c.loop-i.invariant.2 ∙ low _ _ _ _ c.loop-i-test.true c.wide-b.ensures c.if-b-lt48.true)
+pub returns-then-not-is_ascii_digit : goal.returns-then-not-is_ascii_digit
+returns-then-not-is_ascii_digit c =
+    sym (c.loop-b.invariant.1 ∙ other _ _ _ c.loop-b-test.true c.if-not-is_ascii_digit.ensures.cases)
 
-pub returns-then-b-gt57 : goal.returns-then-b-gt57
-returns-then-b-gt57 c =
-    sym (c.loop-i.invariant.2 ∙ high _ _ _ _ c.loop-i-test.true c.wide-b.ensures c.if-b-lt48.false c.if-b-gt57.true)
+pub returns-in_err-checked_mul : goal.returns-in_err-checked_mul
+returns-in_err-checked_mul c =
+    rw c.from_residual.ensures (sym (c.loop-b.invariant.1 ∙ next_over _ _ _ c.loop-b-test.true c.if-not-is_ascii_digit.ensures.cases (omega (arith, c.in_err-checked_mul.ensures))))
 
-pub returns-then-value-gt4294967295 : goal.returns-then-value-gt4294967295
-returns-then-value-gt4294967295 c =
-    sym (c.loop-i.invariant.2 ∙ next_over _ _ _ _ c.loop-i-test.true c.wide-b.ensures c.if-b-lt48.false c.if-b-gt57.false c.if-value-gt4294967295.true)
+pub returns-in_err-value : goal.returns-in_err-value
+returns-in_err-value c =
+    rw c.from_residual-in_err-value.ensures (sym (c.loop-b.invariant.1 ∙ next_over _ _ _ c.loop-b-test.true c.if-not-is_ascii_digit.ensures.cases (omega (arith, c.in_ok-checked_mul.ensures, c.in_err-value.ensures))))
 
-pub loop-i-preserved : goal.loop-i-preserved
-loop-i-preserved c =
-    (search rules, search rules, c.loop-i.invariant.2 ∙ next _ _ _ _ c.loop-i-test.true c.wide-b.ensures c.if-b-lt48.false c.if-b-gt57.false)
+pub loop-b-preserved : goal.loop-b-preserved
+loop-b-preserved c =
+    let e = next c.args.t.now c.loop-b.b-index c.loop-b.value c.loop-b-test.true c.if-not-is_ascii_digit.ensures.cases in
+    let v : c.loop-b.value * 10 + (get_or c.args.t.now c.loop-b.b-index 0 - 48) ≡ c.in_ok-value.value =
+    omega (arith, c.in_ok-checked_mul.ensures, c.in_ok-value.ensures) in
+    (omega (arith, c.in_ok-value.ensures), c.loop-b.invariant.1 ∙ e ∙ rw v)
 
 pub returns : goal.returns
-returns c = sym (c.loop-i.invariant.2 ∙ done _ _ _ c.loop-i-test.false c.loop-i.invariant.1)
+returns c = sym (c.loop-b.invariant.1 ∙ done _ _ _ c.loop-b-test.false c.loop-b.invariant.0)

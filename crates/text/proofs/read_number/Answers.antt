@@ -1,18 +1,20 @@
--- `read_number` meets its contract, by the length and the first byte.
-use lib.ListN.{get_or}
-use native.Mathlib.Omega.{arith}
-use borrow.Author.Tests.{ne_eqb}
-use mathlib.Core.Path.{◌≡◌, sym, ◌∙◌}
-use Rattle.text.proofs.NumberLaws.{number_none, number_one, number_more}
+-- `read_number` meets its contract, by the first byte and the rest.
+use Rattle.std.proofs.Common.{sym, ◌∙◌}
+use Rattle.text.proofs.NumberLaws.{number_none}
+use Rattle.text.proofs.ReadLaws.{zero_first, zero_alone, other_first}
 use Rattle.text.proofs.read_number.Goals as goal
+use Rattle.text.proofs.read_number.Goals.{else-first-eq48-via-then-first-eq48+else-not-is_empty, else-first-eq48-via-else-first-eq48}
 
-pub returns-then-n-eq0 : goal.returns-then-n-eq0
-returns-then-n-eq0 c = sym (number_none _ c.if-n-eq0.true)
+pub returns-in_err-first : goal.returns-in_err-first
+returns-in_err-first c = rw c.from_residual.ensures (sym (number_none _ c.in_err-first.ensures.cases))
 
-pub returns-then-n-eq1 : goal.returns-then-n-eq1
-returns-then-n-eq1 c = c.read_digits.ensures ∙ sym (number_one _ c.if-n-eq1.true)
+pub returns-then-not-is_empty : goal.returns-then-not-is_empty
+returns-then-not-is_empty c = zero_first _ _ c.in_ok-first.ensures.cases.0 c.if-first-eq48.true c.if-not-is_empty.ensures
 
 pub returns : goal.returns
 returns c =
-    let other : get_or c.args.t.now 0 0 ≡ 48 → ⊥ = λ e. omega arith in
-    c.read_digits-2.ensures ∙ sym (number_more _ (omega arith) ∙ rw (ne_eqb _ _ other))
+    c.read_digits.ensures
+    ∙ sym (elim c.else-first-eq48.branch [
+      | else-first-eq48-via-then-first-eq48+else-not-is_empty w ↦ zero_alone _ _ c.in_ok-first.ensures.cases.0 w.if-not-is_empty.ensures
+      | else-first-eq48-via-else-first-eq48 w ↦ other_first _ _ c.in_ok-first.ensures.cases.0 w.if-first-eq48.false
+    ])
