@@ -1,55 +1,27 @@
--- Laws of the first bad line: the steps that find it, its number, and what holds where there is none.
-use Prim.Native.Nat.{ℕ, ◌≤◌}
-use mathlib.Core.Path.{◌≡◌, refl, sym, ◌∙◌}
+-- What holds of a layer that has no bad line: every test is passed; and a layer that passes every test has no bad line.
+use Prim.Native.Nat.{ℕ}
+use mathlib.Core.Path.{◌≡◌, refl}
 use mathlib.Core.List.{List, [], ◌∷◌}
 use mathlib.Core.Bool.{Bool, true, false, cond}
-use borrow.Author.Rules.{rules}
+use Rattle.std.specs.Prelude.{Ok, Err}
 use Rattle.layer.specs.declared.Layer.{Layer}
+use Rattle.layer.specs.declared.SheetError.{SheetError}
 use Rattle.layer.specs.Versions.{lacks_op, lacks_rounding}
 use Rattle.faults.specs.Faults.{bad_version, bad_axes, bad_axis, hides, hides_sizes, unused_padding, unused_rounding, unused_axis, faults, first_fault, fault_of}
-use Rattle.faults.specs.declared.Fault.{Fault}
-use Rattle.faults.specs.declared.Fault.TheVariants.{Fine, At}
 
--- ---- the steps of the code, whose answer for a test is b
+-- each test is false
+abbrev AllPassed : List (Bool × SheetError × ℕ) → Type 0
+AllPassed [] = Unit {0}
+AllPassed (t ∷ more) = (t.0 ≡ false) × AllPassed more
 
-module _ (t : Bool × ℕ × ℕ) (more : List (Bool × ℕ × ℕ)) {b : Bool} {r : Fault} (e : b ≡ t.0) where
-  pub bad_here : b ≡ true → r ≡ At t.1 t.2 → r ≡ first_fault (t ∷ more)
-  unfolding first_fault
-  bad_here h q = q ∙ sym (rw (sym e ∙ h))
-
-  pub fine_here : b ≡ false → r ≡ first_fault more → r ≡ first_fault (t ∷ more)
-  unfolding first_fault
-  fine_here h q = q ∙ sym (rw (sym e ∙ h))
-
-pub none_left : Fine ≡ first_fault []
+all_passed : (ts : List (Bool × SheetError × ℕ)) → first_fault ts ≡ Ok tt → AllPassed ts
 unfolding first_fault
-none_left = refl
-
-pub ruleset steps = (bad_here, fine_here, none_left)
-
--- ---- what is found: a fault with a number that is not 0, or every test is passed
-
-abbrev Every : (Bool × ℕ × ℕ → Type 0) → List (Bool × ℕ × ℕ) → Type 0
-Every P [] = Unit {0}
-Every P (t ∷ more) = P t × Every P more
-
-abbrev pub Found : List (Bool × ℕ × ℕ) → Fault → Type 0
-Found ts Fine = Every (λ t. t.0 ≡ false) ts
-Found ts (At k n) = 1 ≤ k
-
-found : (ts : List (Bool × ℕ × ℕ)) → Every (λ t. 1 ≤ t.1) ts → Found ts (first_fault ts)
-unfolding first_fault
-found [] h = tt
-found (t ∷ more) h = go t.0 (first_fault more) (found more h.1)
+all_passed [] e = tt
+all_passed (t ∷ more) e = let h = go t.0 e in (h.0, all_passed more h.1)
   where
-    go : (b : Bool) (f : Fault) → Found more f → Found ((b, t.1, t.2) ∷ more) (cond b (At t.1 t.2) f)
-    go true f r = h.0
-    go false Fine r = (refl, r)
-    go false (At k n) r = r
-
-pub fault_found : (l : Layer) → Found (faults l) (fault_of l)
-unfolding fault_of
-fault_found l = found (faults l) (search rules)
+    go : (b : Bool) → cond b (Err (record { error = t.1; line = t.2 })) (first_fault more) ≡ Ok tt → (b ≡ false) × (first_fault more ≡ Ok tt)
+    go true h = absurd cc
+    go false h = (refl, h)
 
 -- every test is passed
 pub record Passed (l : Layer) : Type 0 where
@@ -71,10 +43,11 @@ pub record Passed (l : Layer) : Type 0 where
   pub used_axis : unused_axis l.op l.axis ≡ false
 
 module _ (l : Layer) where
-  pub passed : fault_of l ≡ Fine → Passed l
-  passed e = let a = rw e at (fault_found l) in search
+  pub passed : fault_of l ≡ Ok tt → Passed l
+  unfolding fault_of
+  passed e = let a = all_passed (faults l) e in search
 
-  pub passed_fine : Passed l → fault_of l ≡ Fine
+  pub passed_fine : Passed l → fault_of l ≡ Ok tt
   unfolding fault_of first_fault
   passed_fine p =
       simp (p.version, p.op, p.axes, p.input, p.kernel, p.sizes, p.stride, p.dilation, p.begin, p.end, p.padding, p.used_padding, p.rounding, p.used_rounding, p.axis, p.used_axis)

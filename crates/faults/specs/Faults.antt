@@ -1,6 +1,6 @@
 -- The first bad line of a layer that is to be written. "Writer: 21, 22 and 23 likewise, .. number faults and then unknown words first on a line". Every other
 -- number of the record is a u32, so a line can show it.
-use Rattle.std.specs.Prelude.{ℕ, ◌+◌, List, [], ◌∷◌, Bool, cond, not, ◌&&◌, ◌||◌, eqb, ℤ, pos, negsuc}
+use Rattle.std.specs.Prelude.{ℕ, ◌+◌, List, [], ◌∷◌, Bool, cond, not, ◌&&◌, ◌||◌, eqb, ℤ, pos, negsuc, Result, Ok, Err}
 use Rattle.std.specs.Int.Signed.{le_z}
 use Rattle.layer.specs.Kinds.{is_pool, is_transposed}
 use Rattle.layer.specs.Axes.{axes_in, uses_y, uses_z}
@@ -9,8 +9,9 @@ use Rattle.layer.specs.Defaults.{default_axis, version_default, size_default, is
 use Rattle.layer.specs.declared.Op.{Op}
 use Rattle.layer.specs.declared.Rounding.{Rounding}
 use Rattle.layer.specs.declared.Layer.{Layer}
-use Rattle.faults.specs.declared.Fault.{Fault}
-use Rattle.faults.specs.declared.Fault.TheVariants.{Fine, At}
+use Rattle.layer.specs.declared.SheetError.{SheetError}
+use Rattle.layer.specs.declared.SheetError.TheVariants.{Number, Word, Unused}
+use Rattle.layer.specs.declared.SheetRefusal.{SheetRefusal}
 
 -- "21 at line 1 for a version other than 8 and 14"
 abbrev pub bad_version : ℕ → Bool
@@ -48,39 +49,43 @@ unused_rounding op r = not (is_pool op) && not (is_default_rounding r)
 abbrev pub unused_axis : Op → ℤ → Bool
 unused_axis op z = not (is_pool op) && not (is_default_axis_attribute z)
 
--- The lines' tests in their order, each with its number and its line, of which the line `op=` has the number `first`; "22 at the rounding line for ceil_torch at
+-- The lines' tests in their order, each with its refusal and its line, of which the line `op=` has the number `first`; "22 at the rounding line for ceil_torch at
 -- version 8"; a hidden field counts "at the line of the list it belongs to".
-abbrev pub axis_faults : ℕ → Op → ℤ → List (Bool × ℕ × ℕ)
-axis_faults first op z = (bad_axis z, 21, first + 11) ∷ (unused_axis op z, 23, first + 11) ∷ []
+abbrev pub axis_faults : ℕ → Op → ℤ → List (Bool × SheetError × ℕ)
+axis_faults first op z = (bad_axis z, Number, first + 11) ∷ (unused_axis op z, Unused, first + 11) ∷ []
 
-abbrev pub pad_faults : ℕ → Layer → List (Bool × ℕ × ℕ)
+abbrev pub pad_faults : ℕ → Layer → List (Bool × SheetError × ℕ)
 pad_faults first l =
-    (hides l.axes l.z.pad_begin l.y.pad_begin default_axis.pad_begin, 23, first + 7) ∷
-    (hides l.axes l.z.pad_end l.y.pad_end default_axis.pad_end, 23, first + 8) ∷
-    (hides l.axes l.z.output_padding l.y.output_padding default_axis.output_padding, 23, first + 9) ∷
-    (unused_padding l.op l.z.output_padding l.y.output_padding l.x.output_padding, 23, first + 9) ∷
-    (lacks_rounding l.version l.rounding, 22, first + 10) ∷
-    (unused_rounding l.op l.rounding, 23, first + 10) ∷
+    (hides l.axes l.z.pad_begin l.y.pad_begin default_axis.pad_begin, Unused, first + 7) ∷
+    (hides l.axes l.z.pad_end l.y.pad_end default_axis.pad_end, Unused, first + 8) ∷
+    (hides l.axes l.z.output_padding l.y.output_padding default_axis.output_padding, Unused, first + 9) ∷
+    (unused_padding l.op l.z.output_padding l.y.output_padding l.x.output_padding, Unused, first + 9) ∷
+    (lacks_rounding l.version l.rounding, Word, first + 10) ∷
+    (unused_rounding l.op l.rounding, Unused, first + 10) ∷
     axis_faults first l.op l.axis
 
-abbrev pub line_faults : ℕ → Layer → List (Bool × ℕ × ℕ)
+abbrev pub line_faults : ℕ → Layer → List (Bool × SheetError × ℕ)
 line_faults first l =
-    (lacks_op l.version l.op, 23, first) ∷
-    (bad_axes l.axes, 21, first + 1) ∷
-    (hides l.axes l.z.input l.y.input default_axis.input, 23, first + 2) ∷
-    (hides l.axes l.z.kernel l.y.kernel default_axis.kernel, 23, first + 3) ∷
-    (hides_sizes l.op l.g l.o l.i, 23, first + 3) ∷
-    (hides l.axes l.z.stride l.y.stride default_axis.stride, 23, first + 4) ∷
-    (hides l.axes l.z.dilation l.y.dilation default_axis.dilation, 23, first + 5) ∷
+    (lacks_op l.version l.op, Unused, first) ∷
+    (bad_axes l.axes, Number, first + 1) ∷
+    (hides l.axes l.z.input l.y.input default_axis.input, Unused, first + 2) ∷
+    (hides l.axes l.z.kernel l.y.kernel default_axis.kernel, Unused, first + 3) ∷
+    (hides_sizes l.op l.g l.o l.i, Unused, first + 3) ∷
+    (hides l.axes l.z.stride l.y.stride default_axis.stride, Unused, first + 4) ∷
+    (hides l.axes l.z.dilation l.y.dilation default_axis.dilation, Unused, first + 5) ∷
     pad_faults first l
 
-abbrev pub faults : Layer → List (Bool × ℕ × ℕ)
-faults l = (bad_version l.version, 21, 1) ∷ line_faults (op_line l.version) l
+abbrev pub faults : Layer → List (Bool × SheetError × ℕ)
+faults l = (bad_version l.version, Number, 1) ∷ line_faults (op_line l.version) l
 
--- the first bad line
-unfoldable pub first_fault : List (Bool × ℕ × ℕ) → Fault
-first_fault [] = Fine
-first_fault (t ∷ more) = cond t.0 (At t.1 t.2) (first_fault more)
+-- the refusal of a line, where its test is true
+abbrev pub refuse_if : Bool → SheetError → ℕ → Result (Unit {0}) SheetRefusal
+refuse_if test error line = cond test (Err (record { error = error; line = line })) (Ok tt)
 
-unfoldable pub fault_of : Layer → Fault
+-- the first bad line; nothing where there is none
+unfoldable pub first_fault : List (Bool × SheetError × ℕ) → Result (Unit {0}) SheetRefusal
+first_fault [] = Ok tt
+first_fault (t ∷ more) = cond t.0 (Err (record { error = t.1; line = t.2 })) (first_fault more)
+
+unfoldable pub fault_of : Layer → Result (Unit {0}) SheetRefusal
 fault_of l = first_fault (faults l)

@@ -2,19 +2,15 @@
 #![tactic(auto)]
 
 ghost use Rattle.std.specs.Prelude.{◌≡◌};
-ghost use Rattle.faults.specs.Faults.{bad_version, op_line, bad_axes, bad_axis, hides, hides_sizes, is_default_padding, unused_padding, unused_rounding, unused_axis, axis_faults, pad_faults, line_faults, first_fault, fault_of};
+ghost use Rattle.std.specs.Fn.{FnReturnsAt};
+ghost use Rattle.layer.specs.Defaults.{default_axis};
+ghost use Rattle.faults.specs.Faults.{bad_version, op_line, bad_axes, bad_axis, hides, hides_sizes, is_default_padding, unused_padding, unused_rounding, unused_axis, refuse_if, axis_faults, pad_faults, line_faults, first_fault, fault_of};
 
 use layer::{
-    Axis, Layer, Op, Rounding, axes_in, is_default_axis_attribute, is_default_rounding, is_pool,
-    is_transposed, lacks_op, lacks_rounding, uses_y, uses_z, version_in,
+    Axis, Layer, Op, Rounding, SheetError, SheetRefusal, axes_in, is_default_axis_attribute,
+    is_default_rounding, is_pool, is_transposed, lacks_op, lacks_rounding, uses_y, uses_z,
+    version_in,
 };
-
-// What a sheet cannot show of a layer: nothing, or the number and the line of the first bad line.
-#[derive(Clone, Copy)]
-pub enum Fault {
-    Fine,
-    At(u32, u32),
-}
 
 fn bad_version(version: u32) -> bool
     ensures { result ≡ bad_version version }
@@ -38,136 +34,115 @@ fn bad_axes(axes: u32) -> bool
 fn bad_axis(axis: i32) -> bool
     ensures { result ≡ bad_axis axis }
 {
-    !((-9 <= axis) & (axis <= 9))
+    !(-9..=9).contains(&axis)
 }
 
-fn hides(axes: u32, z: u32, y: u32, default: u32) -> bool
-    ensures { result ≡ hides axes z y default }
+// Whether an axis that is not used has this field at another value than its default.
+fn hides<F: Fn(&Axis) -> u32>(l: &Layer, field: F) -> bool
+    requires { F.IsAlwaysCallable field }
+    ensures { (z : _) × (y : _) × (default : _) × FnReturnsAt F.Fn field l.now.z z × FnReturnsAt F.Fn field l.now.y y
+        × FnReturnsAt F.Fn field default_axis default × (result ≡ hides l.now.axes z y default) }
 {
-    (!uses_z(axes) & !(z == default)) | (!uses_y(axes) & !(y == default))
+    let default = field(&Axis::new());
+    let z = field(&l.z);
+    let y = field(&l.y);
+    (!uses_z(l.axes) & (z != default)) | (!uses_y(l.axes) & (y != default))
 }
 
-fn hides_sizes(op: Op, g: u32, o: u32, i: u32) -> bool
-    ensures { result ≡ hides_sizes op g o i }
+fn hides_sizes(l: &Layer) -> bool
+    ensures { result ≡ hides_sizes l.now.op l.now.g l.now.o l.now.i }
 {
-    is_pool(op) & !((g == Layer::SIZE) & (o == Layer::SIZE) & (i == Layer::SIZE))
+    is_pool(l.op) && !(l.g == Layer::SIZE && l.o == Layer::SIZE && l.i == Layer::SIZE)
 }
 
-fn is_default_padding(p: u32) -> bool
-    ensures { result ≡ is_default_padding p }
+fn is_default_padding(axis: &Axis) -> bool
+    ensures { result ≡ is_default_padding axis.now.output_padding }
 {
-    p == Axis::OUTPUT_PADDING
+    axis.output_padding == Axis::OUTPUT_PADDING
 }
 
-fn unused_padding(op: Op, z: u32, y: u32, x: u32) -> bool
-    ensures { result ≡ unused_padding op z y x }
+fn unused_padding(l: &Layer) -> bool
+    ensures { result ≡ unused_padding l.now.op l.now.z.output_padding l.now.y.output_padding l.now.x.output_padding }
 {
-    !is_transposed(op) & !(is_default_padding(z) & is_default_padding(y) & is_default_padding(x))
+    !is_transposed(l.op)
+        && !(is_default_padding(&l.z) && is_default_padding(&l.y) && is_default_padding(&l.x))
 }
 
 fn unused_rounding(op: Op, rounding: Rounding) -> bool
     ensures { result ≡ unused_rounding op rounding }
 {
-    !is_pool(op) & !is_default_rounding(rounding)
+    !is_pool(op) && !is_default_rounding(rounding)
 }
 
 fn unused_axis(op: Op, axis: i32) -> bool
     ensures { result ≡ unused_axis op axis }
 {
-    !is_pool(op) & !is_default_axis_attribute(axis)
+    !is_pool(op) && !is_default_axis_attribute(axis)
+}
+
+fn refuse_if(test: bool, error: SheetError, line: u32) -> Result<(), SheetRefusal>
+    ensures { result ≡ refuse_if test error line }
+{
+    if test {
+        return Err(SheetRefusal { error, line });
+    }
+    Ok(())
 }
 
 // The axis.
-fn axis_fault(first: u8, op: Op, axis: i32) -> Fault
-    ensures { result ≡ first_fault (axis_faults first op axis) }
+#[tactic(auto, unfolding(crate::specs::Faults::first_fault))]
+fn axis_fault(first: u8, l: &Layer) -> Result<(), SheetRefusal>
+    ensures { result ≡ first_fault (axis_faults first l.now.op l.now.axis) }
 {
-    let line = first as u32;
-    if bad_axis(axis) {
-        return Fault::At(21, line + 11);
-    }
-    if unused_axis(op, axis) {
-        return Fault::At(23, line + 11);
-    }
-    Fault::Fine
+    let line = u32::from(first);
+    refuse_if(bad_axis(l.axis), SheetError::Number, line + 11)?;
+    refuse_if(unused_axis(l.op, l.axis), SheetError::Unused, line + 11)
 }
 
 // The first bad line from pads_begin on.
-fn pad_fault(first: u8, l: Layer) -> Fault
-    ensures { result ≡ first_fault (pad_faults first l) }
+#[tactic(auto, unfolding(crate::specs::Faults::first_fault))]
+fn pad_fault(first: u8, l: &Layer) -> Result<(), SheetRefusal>
+    ensures { result ≡ first_fault (pad_faults first l.now) }
 {
-    let line = first as u32;
-    let op = l.op;
-    let axes = l.axes;
-    let z = l.z;
-    let y = l.y;
-    let x = l.x;
-    let rounding = l.rounding;
-    let axis = l.axis;
-    if hides(axes, z.pad_begin, y.pad_begin, Axis::PAD) {
-        return Fault::At(23, line + 7);
-    }
-    if hides(axes, z.pad_end, y.pad_end, Axis::PAD) {
-        return Fault::At(23, line + 8);
-    }
-    if hides(
-        axes,
-        z.output_padding,
-        y.output_padding,
-        Axis::OUTPUT_PADDING,
-    ) {
-        return Fault::At(23, line + 9);
-    }
-    if unused_padding(op, z.output_padding, y.output_padding, x.output_padding) {
-        return Fault::At(23, line + 9);
-    }
-    if lacks_rounding(l.version, rounding) {
-        return Fault::At(22, line + 10);
-    }
-    if unused_rounding(op, rounding) {
-        return Fault::At(23, line + 10);
-    }
-    axis_fault(first, op, axis)
+    let line = u32::from(first);
+    refuse_if(hides(l, |a| a.pad_begin), SheetError::Unused, line + 7)?;
+    refuse_if(hides(l, |a| a.pad_end), SheetError::Unused, line + 8)?;
+    refuse_if(hides(l, |a| a.output_padding), SheetError::Unused, line + 9)?;
+    refuse_if(unused_padding(l), SheetError::Unused, line + 9)?;
+    refuse_if(
+        lacks_rounding(l.version, l.rounding),
+        SheetError::Word,
+        line + 10,
+    )?;
+    refuse_if(
+        unused_rounding(l.op, l.rounding),
+        SheetError::Unused,
+        line + 10,
+    )?;
+    axis_fault(first, l)
 }
 
 // The first bad line from op on.
-fn line_fault(first: u8, l: Layer) -> Fault
-    ensures { result ≡ first_fault (line_faults first l) }
+#[tactic(auto, unfolding(crate::specs::Faults::first_fault))]
+fn line_fault(first: u8, l: &Layer) -> Result<(), SheetRefusal>
+    ensures { result ≡ first_fault (line_faults first l.now) }
 {
-    let line = first as u32;
-    let op = l.op;
-    let axes = l.axes;
-    let z = l.z;
-    let y = l.y;
-    if lacks_op(l.version, op) {
-        return Fault::At(23, line);
-    }
-    if bad_axes(axes) {
-        return Fault::At(21, line + 1);
-    }
-    if hides(axes, z.input, y.input, Axis::SIZE) {
-        return Fault::At(23, line + 2);
-    }
-    if hides(axes, z.kernel, y.kernel, Axis::SIZE) {
-        return Fault::At(23, line + 3);
-    }
-    if hides_sizes(op, l.g, l.o, l.i) {
-        return Fault::At(23, line + 3);
-    }
-    if hides(axes, z.stride, y.stride, Axis::STRIDE) {
-        return Fault::At(23, line + 4);
-    }
-    if hides(axes, z.dilation, y.dilation, Axis::DILATION) {
-        return Fault::At(23, line + 5);
-    }
+    let line = u32::from(first);
+    refuse_if(lacks_op(l.version, l.op), SheetError::Unused, line)?;
+    refuse_if(bad_axes(l.axes), SheetError::Number, line + 1)?;
+    refuse_if(hides(l, |a| a.input), SheetError::Unused, line + 2)?;
+    refuse_if(hides(l, |a| a.kernel), SheetError::Unused, line + 3)?;
+    refuse_if(hides_sizes(l), SheetError::Unused, line + 3)?;
+    refuse_if(hides(l, |a| a.stride), SheetError::Unused, line + 4)?;
+    refuse_if(hides(l, |a| a.dilation), SheetError::Unused, line + 5)?;
     pad_fault(first, l)
 }
 
 // The first bad line.
-pub fn fault_of(l: Layer) -> Fault
+#[tactic(auto, unfolding(crate::specs::Faults::first_fault, crate::specs::Faults::fault_of))]
+pub fn fault_of(l: Layer) -> Result<(), SheetRefusal>
     ensures { result ≡ fault_of l }
 {
-    if bad_version(l.version) {
-        return Fault::At(21, 1);
-    }
-    line_fault(op_line(l.version), l)
+    refuse_if(bad_version(l.version), SheetError::Number, 1)?;
+    line_fault(op_line(l.version), &l)
 }

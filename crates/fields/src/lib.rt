@@ -32,8 +32,7 @@ pub fn kernel_numbers(op: Op, axes: u32) -> usize
     ensures { result ≡ kernel_numbers op axes }
 {
     match op {
-        Op::Convolution => axes as usize + 3,
-        Op::Transposed => axes as usize + 3,
+        Op::Convolution | Op::Transposed => axes as usize + 3,
         Op::MaxPool => axes as usize,
     }
 }
@@ -41,22 +40,20 @@ pub fn kernel_numbers(op: Op, axes: u32) -> usize
 fn kernel_of(op: Op, items: Items) -> Kernel
     ensures { result ≡ kernel_of op items }
 {
+    let convolution = Kernel {
+        g: items.a,
+        o: items.b,
+        i: items.c,
+        first: items.d,
+        second: items.e,
+        third: items.f,
+    };
     match op {
-        Op::Convolution => Kernel {
-            g: items.a,
-            o: items.b,
-            i: items.c,
-            first: items.d,
-            second: items.e,
-            third: items.f,
-        },
+        Op::Convolution => convolution,
         Op::Transposed => Kernel {
-            g: items.a,
             o: items.c,
             i: items.b,
-            first: items.d,
-            second: items.e,
-            third: items.f,
+            ..convolution
         },
         Op::MaxPool => Kernel {
             g: Layer::SIZE,
@@ -74,23 +71,23 @@ fn per_axis(axes: u32, unused: u32, first: u32, second: u32, third: u32) -> PerA
     ensures { result ≡ per_axis axes unused first second third }
 {
     if uses_z(axes) {
-        return PerAxis {
+        PerAxis {
             z: first,
             y: second,
             x: third,
-        };
-    }
-    if uses_y(axes) {
-        return PerAxis {
+        }
+    } else if uses_y(axes) {
+        PerAxis {
             z: unused,
             y: first,
             x: second,
-        };
-    }
-    PerAxis {
-        z: unused,
-        y: unused,
-        x: first,
+        }
+    } else {
+        PerAxis {
+            z: unused,
+            y: unused,
+            x: first,
+        }
     }
 }
 
@@ -98,13 +95,11 @@ fn with_sizes(base: Axis, input: u32, kernel: u32, stride: u32, dilation: u32) -
     ensures { result ≡ with_sizes base input kernel stride dilation }
 {
     Axis {
-        input: input,
-        kernel: kernel,
-        stride: stride,
-        dilation: dilation,
-        pad_begin: base.pad_begin,
-        pad_end: base.pad_end,
-        output_padding: base.output_padding,
+        input,
+        kernel,
+        stride,
+        dilation,
+        ..base
     }
 }
 
@@ -112,17 +107,15 @@ fn with_pads(base: Axis, begin: u32, end: u32, padding: u32) -> Axis
     ensures { result ≡ with_pads base begin end padding }
 {
     Axis {
-        input: base.input,
-        kernel: base.kernel,
-        stride: base.stride,
-        dilation: base.dilation,
         pad_begin: begin,
         pad_end: end,
         output_padding: padding,
+        ..base
     }
 }
 
 // The layer of a version and of the lines from op to dilations: what they do not say is as the constructor has it.
+#[tactic(auto, unfolding(crate::specs::Layers::sized_layer))]
 pub fn sized_layer(
     version: u32,
     op: Op,
@@ -135,36 +128,27 @@ pub fn sized_layer(
     ensures { result ≡ sized_layer version op axes input kernel strides dilations }
 {
     let base = Layer::new(op, axes);
-    let auto_pad = base.auto_pad;
-    let rounding = base.rounding;
-    let axis = base.axis;
     let k = kernel_of(op, kernel);
     let size_on = per_axis(axes, Axis::SIZE, input.c, input.d, input.e);
     let kernel_on = per_axis(axes, Axis::SIZE, k.first, k.second, k.third);
     let stride_on = per_axis(axes, Axis::STRIDE, strides.a, strides.b, strides.c);
     let dilation_on = per_axis(axes, Axis::DILATION, dilations.a, dilations.b, dilations.c);
-    let z = with_sizes(base.z, size_on.z, kernel_on.z, stride_on.z, dilation_on.z);
-    let y = with_sizes(base.y, size_on.y, kernel_on.y, stride_on.y, dilation_on.y);
-    let x = with_sizes(base.x, size_on.x, kernel_on.x, stride_on.x, dilation_on.x);
     Layer {
-        version: version,
-        op: op,
-        axes: axes,
+        version,
         n: input.a,
         c: input.b,
         g: k.g,
         o: k.o,
         i: k.i,
-        z: z,
-        y: y,
-        x: x,
-        auto_pad: auto_pad,
-        rounding: rounding,
-        axis: axis,
+        z: with_sizes(base.z, size_on.z, kernel_on.z, stride_on.z, dilation_on.z),
+        y: with_sizes(base.y, size_on.y, kernel_on.y, stride_on.y, dilation_on.y),
+        x: with_sizes(base.x, size_on.x, kernel_on.x, stride_on.x, dilation_on.x),
+        ..base
     }
 }
 
 // The same layer with what the lines from auto_pad on say.
+#[tactic(auto, unfolding(crate::specs::Layers::padded_layer))]
 pub fn padded_layer(
     l: Layer,
     mode: AutoPad,
@@ -176,59 +160,58 @@ pub fn padded_layer(
 ) -> Layer
     ensures { result ≡ padded_layer l mode begin end padding rounding axis }
 {
-    let op = l.op;
-    let axes = l.axes;
-    let begin_on = per_axis(axes, Axis::PAD, begin.a, begin.b, begin.c);
-    let end_on = per_axis(axes, Axis::PAD, end.a, end.b, end.c);
-    let padding_on = per_axis(axes, Axis::OUTPUT_PADDING, padding.a, padding.b, padding.c);
-    let z = with_pads(l.z, begin_on.z, end_on.z, padding_on.z);
-    let y = with_pads(l.y, begin_on.y, end_on.y, padding_on.y);
-    let x = with_pads(l.x, begin_on.x, end_on.x, padding_on.x);
+    let begin_on = per_axis(l.axes, Axis::PAD, begin.a, begin.b, begin.c);
+    let end_on = per_axis(l.axes, Axis::PAD, end.a, end.b, end.c);
+    let padding_on = per_axis(
+        l.axes,
+        Axis::OUTPUT_PADDING,
+        padding.a,
+        padding.b,
+        padding.c,
+    );
     Layer {
-        version: l.version,
-        op: op,
-        axes: axes,
-        n: l.n,
-        c: l.c,
-        g: l.g,
-        o: l.o,
-        i: l.i,
-        z: z,
-        y: y,
-        x: x,
+        z: with_pads(l.z, begin_on.z, end_on.z, padding_on.z),
+        y: with_pads(l.y, begin_on.y, end_on.y, padding_on.y),
+        x: with_pads(l.x, begin_on.x, end_on.x, padding_on.x),
         auto_pad: mode,
-        rounding: rounding,
-        axis: axis,
+        rounding,
+        axis,
+        ..l
     }
 }
 
 // ---- the lists of a layer
 
-pub fn axis_list(axes: u32, z: u32, y: u32, x: u32) -> Items
-    ensures { result ≡ axis_list axes z y x }
+pub fn axis_list(axes: u32, on: PerAxis) -> Items
+    ensures { result ≡ axis_list axes on.z on.y on.x }
 {
     if uses_z(axes) {
-        return more_item(z, more_item(y, one_item(x)));
+        more_item(on.z, more_item(on.y, one_item(on.x)))
+    } else if uses_y(axes) {
+        more_item(on.y, one_item(on.x))
+    } else {
+        one_item(on.x)
     }
-    if uses_y(axes) {
-        return more_item(y, one_item(x));
-    }
-    one_item(x)
 }
 
-pub fn input_list(axes: u32, n: u32, c: u32, z: u32, y: u32, x: u32) -> Items
-    ensures { result ≡ input_list axes n c z y x }
+pub fn input_list(axes: u32, n: u32, c: u32, on: PerAxis) -> Items
+    ensures { result ≡ input_list axes n c on.z on.y on.x }
 {
-    more_item(n, more_item(c, axis_list(axes, z, y, x)))
+    more_item(n, more_item(c, axis_list(axes, on)))
 }
 
-pub fn kernel_list(op: Op, axes: u32, g: u32, o: u32, i: u32, z: u32, y: u32, x: u32) -> Items
-    ensures { result ≡ kernel_list op axes g o i z y x }
+pub fn kernel_list(l: &Layer) -> Items
+    ensures { let a = l.now in result ≡ kernel_list a.op a.axes a.g a.o a.i a.z.kernel a.y.kernel a.x.kernel }
 {
-    let last = axis_list(axes, z, y, x);
-    match op {
-        Op::Convolution => more_item(g, more_item(o, more_item(i, last))),
-        Op::Transposed => more_item(g, more_item(i, more_item(o, last))),
+    let on = PerAxis {
+        z: l.z.kernel,
+        y: l.y.kernel,
+        x: l.x.kernel,
+    };
+    let last = axis_list(l.axes, on);
+    match l.op {
+        Op::Convolution => more_item(l.g, more_item(l.o, more_item(l.i, last))),
+        Op::Transposed => more_item(l.g, more_item(l.i, more_item(l.o, last))),
         Op::MaxPool => last,
     }
 }

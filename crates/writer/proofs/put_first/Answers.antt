@@ -2,7 +2,7 @@
 use mathlib.Core.List.{append-nil}
 use Rattle.lines.specs.Form.{show_form}
 use Rattle.fields.specs.Sheet.{sheet_values}
-use Rattle.print.proofs.PutLaws.{put_length, put_then}
+use Rattle.print.proofs.PutLaws.{put_then}
 use Rattle.writer.proofs.put_first.Goals as goal
 
 pub returns : goal.returns
@@ -11,6 +11,3 @@ returns c =
     put_then (rw c.op_items.ensures at c.put_line-at1.ensures)
     (put_then (rw c.one_item.ensures at c.put_line-at2.ensures)
     (rw (append-nil _) (rw c.input_list-input.ensures at c.put_line.ensures)))
-
-pub shape_of-buf : goal.shape_of-buf
-shape_of-buf c = put_length (returns c)

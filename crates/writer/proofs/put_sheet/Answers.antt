@@ -3,16 +3,13 @@ use mathlib.Core.List.{append_assoc}
 use Rattle.values.proofs.ValueLaws.{op_again}
 use Rattle.lines.specs.Form.{show_form}
 use Rattle.fields.specs.Sheet.{twelve_lines, sheet_values, show_sheet}
-use Rattle.print.proofs.PutLaws.{put_length, put_then}
+use Rattle.print.proofs.PutLaws.{put_then}
 use Rattle.writer.proofs.put_sheet.Goals as goal
 
 pub returns : goal.returns
 unfolding show_form twelve_lines sheet_values show_sheet
 returns c =
-    rw (op_again c.args.l.op)
+    rw (op_again c.args.l.now.op)
     (simp append_assoc at
     (put_then c.put_version-at0.ensures
     (put_then c.put_first-at3.ensures (put_then c.put_sizes-at6.ensures (put_then c.put_pads-at9.ensures c.put_last.ensures)))))
-
-pub shape_of-buf : goal.shape_of-buf
-shape_of-buf c = put_length (returns c)

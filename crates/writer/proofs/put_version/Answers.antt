@@ -5,7 +5,6 @@ use borrow.Author.Tests.{ne_eqb}
 use Rattle.text.specs.Texts.{place}
 use Rattle.values.specs.Words.{word_at}
 use Rattle.values.specs.Values.{show_field}
-use Rattle.print.proofs.PutLaws.{put_length}
 use Rattle.writer.proofs.put_version.Goals as goal
 
 pub returns : goal.returns
@@ -13,6 +12,3 @@ unfolding show_field word_at place
 returns c =
     let other : c.args.version ≡ 8 → ⊥ = λ e. omega arith in
     rw (ne_eqb _ 8 other) (rw c.one_item.ensures at c.put_line.ensures)
-
-pub shape_of-buf : goal.shape_of-buf
-shape_of-buf c = put_length (returns c)
