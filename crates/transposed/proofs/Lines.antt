@@ -1,4 +1,5 @@
 -- One tap of a kernel row over one row of the input: it reaches outputs a stride apart, and the input positions that it reaches follow one another.
+use Rattle.std.specs.Prelude.{None, Option, Some}
 use mathlib.Core.Path.{◌≡◌, refl, sym, ◌∙◌}
 use mathlib.Core.Bool.{Bool, true, false, cond, ◌&&◌, ◌||◌}
 use mathlib.Core.List.{List, ◌++◌}
@@ -13,8 +14,6 @@ use lib.Seq.{get_or-drop, take_all, length-take-le}
 use lib.Ieee.{Float, nan}
 use Rattle.layer.proofs.Tests.{or_other, or_neither}
 use Rattle.sizes.specs.Size.{ceil_div}
-use Rattle.taps.specs.declared.Tap.{Tap}
-use Rattle.taps.specs.declared.Tap.TheVariants.{At, Outside}
 use Rattle.taps.specs.Joins.{position_by, reach_of}
 use Rattle.sizes.proofs.Division.{ceil_le, ceil_self}
 use Rattle.taps.proofs.Joins.{reach_finds, at_finds}
@@ -59,13 +58,13 @@ module _ (row weights : List Float) (begin d stride k : ℕ) {first lo : ℕ} (s
   unfolding row_tap tap_in
   unreached n h = summed_away (λ x t p q. let z : k + t ≡ k = omega arith in rw z (go x p (reach_of (length row) d stride (x + begin) k) refl))
     where
-      go : (x : ℕ) → x < n → (t : Tap) → t ≡ reach_of (length row) d stride (x + begin) k → tap_in t (λ i. pair (read row i) (read weights k)) ≡ none
-      go x p (At i) e =
+      go : (x : ℕ) → x < n → (t : Option ℕ) → t ≡ reach_of (length row) d stride (x + begin) k → tap_in t (λ i. pair (read row i) (read weights k)) ≡ none
+      go x p (Some i) e =
           let u = at_finds (length row) _ (reach_of (length row) d stride (x + begin) k) i (reach_finds (length row) d stride (x + begin) k s) (sym e) in
           let r = eqb-true (i * stride + k * d) (x + begin) u.1 in
           let f : first ≤ i = rw ef ((ceil_le (begin - k * d) i s).1 (omega arith)) in
           absurd (h x i p f u.0 (omega (arith, mul-le-mul_right stride f)))
-      go x p Outside e = refl
+      go x p None e = refl
 
   -- no output is reached of a row that ends at lo or before it, or from an input that ends at `first` or before it
   pub tap_away : {l : List Float} → leb (length row) first || leb (length l) lo ≡ true → Tapped row weights begin d stride k (length l) l l
@@ -81,7 +80,7 @@ module _ (row weights : List Float) (begin d stride k : ℕ) {first lo : ℕ} (s
       (go (eqb (x % stride) 0) (dec_lt (first + x / stride) (length row)))
     where
       go : (b : Bool) → Dec (first + x / stride < length row) → cond (b && ltb (x / stride) (length row - first)) (pair (read row (first + x / stride)) (read weights k)) none
-          ≡ tap_in (cond b (cond (ltb (first + x / stride) (length row)) (At (first + x / stride)) Outside) Outside) (λ i. pair (read row i) (read weights k))
+          ≡ tap_in (cond b (cond (ltb (first + x / stride) (length row)) (Some (first + x / stride)) None) None) (λ i. pair (read row i) (read weights k))
       go false h = refl
       go true (yes h) = rw (lt-ltb (first + x / stride) (length row) h, lt-ltb (x / stride) (length row - first) (omega arith))
       go true (no h) = rw (le-ltb (first + x / stride) (length row) (omega arith), le-ltb (x / stride) (length row - first) (omega arith))

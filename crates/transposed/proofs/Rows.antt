@@ -1,12 +1,11 @@
 -- The taps of a row of outputs by kernel rows: what `add_row` adds is what the definition adds. Output x stands at column x + begin, counted from the start
 -- of the padding.
+use Rattle.std.specs.Prelude.{None, Option, Some}
 use mathlib.Core.Path.{◌≡◌, refl}
 use mathlib.Core.List.{List}
 use Prim.Native.Nat.{ℕ, ◌+◌, ◌*◌, ◌≤◌, ◌<◌}
 use lib.ListN.{length}
 use lib.Ieee.{Float}
-use Rattle.taps.specs.declared.Tap.{Tap}
-use Rattle.taps.specs.declared.Tap.TheVariants.{At, Outside}
 use Rattle.taps.specs.Joins.{reach_of, backward, Below}
 use Rattle.taps.proofs.Joins.{below_at, reach_below}
 use Rattle.shape.specs.declared.Shape.{Shape}
@@ -31,16 +30,16 @@ unfolding row_of
 row_of_read t row width k h = part_read t (row * width) width k h
 
 -- a tap of a kernel row that reaches row y of the input
-tap_one : (input kernel : List Float) (line width b y : ℕ) (t : Tap) (f : ℕ → ℕ → Place) → Below width t → ((x : ℕ) → f y x ≡ at (line * width + x) b)
-    → tap_in t (λ x. pair (read (row_of input line width) x) (read kernel b)) ≡ tap_at input kernel (meet (At y) t f)
+tap_one : (input kernel : List Float) (line width b y : ℕ) (t : Option ℕ) (f : ℕ → ℕ → Place) → Below width t → ((x : ℕ) → f y x ≡ at (line * width + x) b)
+    → tap_in t (λ x. pair (read (row_of input line width) x) (read kernel b)) ≡ tap_at input kernel (meet (Some y) t f)
 unfolding tap_in meet tap_at
-tap_one input kernel line width b y (At x) f h e = rw (e x, row_of_read input line width x (below_at width (At x) x h refl))
-tap_one input kernel line width b y Outside f h e = refl
+tap_one input kernel line width b y (Some x) f h e = rw (e x, row_of_read input line width x (below_at width (Some x) x h refl))
+tap_one input kernel line width b y None f h e = refl
 
-tap_none : (input kernel : List Float) (t : Tap) (f : ℕ → ℕ → Place) → tap_at input kernel (meet Outside t f) ≡ none
+tap_none : (input kernel : List Float) (t : Option ℕ) (f : ℕ → ℕ → Place) → tap_at input kernel (meet None t f) ≡ none
 unfolding meet tap_at
-tap_none input kernel (At x) f = refl
-tap_none input kernel Outside f = refl
+tap_none input kernel (Some x) f = refl
+tap_none input kernel None f = refl
 
 -- ---- kernel row k of channel i
 module _ (s : Shape) (input kernel : List Float) (f : FirstTap) (i : ℕ) {k : ℕ} (h : k < kernel_rows s) where
@@ -52,13 +51,13 @@ module _ (s : Shape) (input kernel : List Float) (f : FirstTap) (i : ℕ) {k : �
   place_row column {j} l = rw (line_flat i (kernel_rows s) s.x.kernel k j, place_div (i * kernel_rows s + k) l, place_mod (i * kernel_rows s + k) l, place_div i h, place_mod i h)
 
   -- where it reaches no row of the input it adds nothing to a row of outputs
-  pub row_away : {n : ℕ} {l : List Float} → Outside ≡ on_rows backward s f.row k
+  pub row_away : {n : ℕ} {l : List Float} → None ≡ on_rows backward s f.row k
       → Summed (row_taps s input kernel f i k) s.x.kernel n l l
   row_away e = summed_away (λ x j p q. rw (place_row (x + s.x.begin) q, ← e) (tap_none input kernel _ _))
 
   -- where it reaches row y of the input, with the parts of the two tensors at hand
   pub row_taps_lem : (y : ℕ) (row weights : List Float) {n : ℕ} {l m : List Float}
-      → At y ≡ on_rows backward s f.row k
+      → Some y ≡ on_rows backward s f.row k
       → row ≡ row_of input ((f.plane + i) * input_rows s + y) s.x.input
       → weights ≡ row_of kernel ((f.weight + i * s.o) * kernel_rows s + k) s.x.kernel
       → RowBounds s f i k y (kernel_rows s) (input_rows s) (length input) (length kernel)

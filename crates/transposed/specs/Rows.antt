@@ -1,8 +1,6 @@
 -- For the code, and no part of what is promised: the taps of a row of outputs from its first taps on, by rows of the kernel. proofs/Places.antt joins them to
 -- `place_of`. A line is a row of an output plane, numbered through all planes.
-use Rattle.std.specs.Prelude.{ℕ, ◌+◌, ◌*◌, ◌/◌, ◌%◌, ◌≤◌, ◌<◌, List, length, take, drop, Float}
-use Rattle.taps.specs.declared.Tap.{Tap}
-use Rattle.taps.specs.declared.Tap.TheVariants.{Outside, At}
+use Rattle.std.specs.Prelude.{ℕ, ◌+◌, ◌*◌, ◌/◌, ◌%◌, ◌≤◌, ◌<◌, List, length, take, drop, Float, None, Option, Some}
 use Rattle.taps.specs.Joins.{reach_of, backward}
 use Rattle.shape.specs.declared.Shape.{Shape}
 use Rattle.shape.specs.Volumes.{input_rows, kernel_rows, out_rows, on_rows}
@@ -20,11 +18,11 @@ first_tap_of s line =
     }
 
 -- a tap takes part where it reaches a row and a column
-unfoldable pub meet : Tap → Tap → (ℕ → ℕ → Place) → Place
-meet (At iy) (At ix) place = place iy ix
-meet (At iy) Outside place = missing
-meet Outside (At ix) place = missing
-meet Outside Outside place = missing
+unfoldable pub meet : Option ℕ → Option ℕ → (ℕ → ℕ → Place) → Place
+meet (Some iy) (Some ix) place = place iy ix
+meet (Some iy) None place = missing
+meet None (Some ix) place = missing
+meet None None place = missing
 
 -- tap number t from first taps on, of the output at this column, counted from the start of the padding
 unfoldable pub place_from : Shape → FirstTap → ℕ → ℕ → Place
@@ -46,9 +44,9 @@ abbrev pub row_taps : Shape → List Float → List Float → FirstTap → ℕ �
 row_taps s input kernel f i k x j = channel_taps s input kernel f i x (k * s.x.kernel + j)
 
 -- one kernel row over one row of the input
-unfoldable pub tap_in : Tap → (ℕ → Factors) → Factors
-tap_in (At x) f = f x
-tap_in Outside f = none
+unfoldable pub tap_in : Option ℕ → (ℕ → Factors) → Factors
+tap_in (Some x) f = f x
+tap_in None f = none
 
 unfoldable pub row_tap : List Float → List Float → ℕ → ℕ → ℕ → ℕ → Factors
 row_tap row weights p dilation stride k = tap_in (reach_of (length row) dilation stride p k) (λ x. pair (read row x) (read weights k))

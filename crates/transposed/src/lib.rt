@@ -1,7 +1,7 @@
 // Transposed convolution over lent f32 tensors.
 #![tactic(auto)]
 
-ghost use Rattle.std.specs.Prelude.{◌≡◌, ◌+◌, ◌*◌, ◌≤◌, ◌<◌, length};
+ghost use Rattle.std.specs.Prelude.{◌≡◌, ◌+◌, ◌*◌, ◌≤◌, ◌<◌, length, IsOk};
 ghost use Rattle.sizes.specs.Bounds.{SpanLimits};
 ghost use Rattle.shape.specs.Facts.{Grouped};
 ghost use Rattle.shape.specs.Volumes.{kernel_rows};
@@ -14,12 +14,12 @@ ghost use Rattle.call.specs.Fitting.{Fitting};
 ghost use Rattle.transposed.specs.Transposed.{place_of};
 ghost use Rattle.transposed.specs.Rows.{first_tap_of, row_tap, row_taps, channel_taps, line_taps, row_of, Within};
 
-use call::{Verdict, check_sum};
-use layer::{Answer, Layer, Op};
+use call::check_sum;
+use layer::{Layer, Op, Refusal};
 use rows::{add_spread, start};
 use shape::{Shape, input_rows, kernel_rows, out_rows, row_tap};
 use sizes::{Span, ceil_div};
-use taps::{Direction, Tap};
+use taps::Direction;
 
 // The first taps of a row of outputs: their plane of the input and of the kernel, and the row's number in its plane.
 #[derive(Clone, Copy)]
@@ -103,7 +103,7 @@ impl Tensors<'_> {
     {
         let s = self.shape;
         let tap = row_tap(Direction::Backward, s, f.row, k as u32);
-        let Tap::At(y) = tap else {
+        let Some(y) = tap else {
             return;
         };
         let row = row_of(
@@ -166,23 +166,23 @@ impl Tensors<'_> {
 }
 
 // Transposed convolution: checks 1 to 9, and only then every output. No call is asked to be valid: each is answered.
-pub fn transposed(layer: Layer, input: &[f32], kernel: &[f32], output: &mut [f32]) -> Answer
+pub fn transposed(
+    layer: Layer,
+    input: &[f32],
+    kernel: &[f32],
+    output: &mut [f32],
+) -> Result<(), Refusal>
     ensures answer { result ≡ answer_of Op.Transposed layer input.now kernel.now (length output.old) }
     ensures contents { output.new ≡ contents_of Op.Transposed Running place_of layer input.now kernel.now output.old }
-    ensures whole { result.number ≡ 0 → WholeOutputs Op.Transposed Running place_of layer input.now kernel.now output.new }
-    ensures finite { result.number ≡ 0 → FiniteOutputs output.new }
+    ensures whole { IsOk result → WholeOutputs Op.Transposed Running place_of layer input.now kernel.now output.new }
+    ensures finite { IsOk result → FiniteOutputs output.new }
 {
-    let verdict = check_sum(Op::Transposed, layer, input, kernel, output.len());
-    match verdict {
-        Verdict::Refuse(answer) => answer,
-        Verdict::Run(shape) => {
-            let tensors = Tensors {
-                shape,
-                input,
-                kernel,
-            };
-            tensors.fill(output);
-            Answer::numbered(0)
-        }
-    }
+    let shape = check_sum(Op::Transposed, layer, input, kernel, output.len())?;
+    let tensors = Tensors {
+        shape,
+        input,
+        kernel,
+    };
+    tensors.fill(output);
+    Ok(())
 }
