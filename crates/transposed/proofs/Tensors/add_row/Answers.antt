@@ -69,6 +69,6 @@ returns c =
     let s = t.shape in
     let f = c.args.f in
     row_taps_lem s t.input.now t.kernel.now f c.args.i c.requires.row.1.0 _ _ _ (sym c.in-Some.is ∙ c.row_tap-tap.ensures)
-    (c.row_of-row.ensures ∙ ap (λ (n : ℕ). row_of t.input.now ((f.plane + c.args.i) * n + c.in-At.y) s.x.input) c.input_rows.ensures)
+    (c.row_of-row.ensures ∙ ap (λ (n : ℕ). row_of t.input.now ((f.plane + c.args.i) * n + c.in-Some.y) s.x.input) c.input_rows.ensures)
     (c.row_of-weights.ensures ∙ ap (λ (n : ℕ). row_of t.kernel.now ((f.weight + c.args.i * s.o) * n + c.args.k) s.x.kernel) c.kernel_rows.ensures)
     (row_reached s f t.input.now t.kernel.now t.fitting c.requires.within c.requires.row c.row_tap-tap.ensures c.in-Some.is refl refl) (rw c.requires.row.1.1 at c.add_taps.ensures)
