@@ -1,6 +1,6 @@
--- Laws of functions that read line after line: r is the code's answer for one line.
+-- Laws of functions that read line after line.
 use Prim.Native.Nat.{ℕ, suc}
-use mathlib.Core.Path.{◌≡◌, refl, sym}
+use mathlib.Core.Path.{◌≡◌, refl}
 use mathlib.Core.List.{List}
 use mathlib.Core.Bool.{Bool, true, false}
 use Rattle.std.specs.Prelude.{Result, Ok, Err}
@@ -35,15 +35,15 @@ unfolding unless_taken
 none_taken taken e = rw (← e)
 
 -- the first of the lines is refused, or read and the others follow
-module _ (key : List ℕ) (field : Field) (taken : Items → Bool) (more : Items → Form) (number : ℕ) (s : List ℕ) (at : ℕ) {r : Result (Items × ℕ) SheetError}
-    (q : r ≡ unless_taken taken (field_line key field s at)) where
-  pub stopped : {e : SheetError} → r ≡ Err e → read_form (line key field taken more) number s at ≡ Err (refusal e number)
+module _ (key : List ℕ) (field : Field) (taken : Items → Bool) (more : Items → Form) (number : ℕ) (s : List ℕ) (at : ℕ) where
+  pub stopped : {e : SheetError} → Err e ≡ unless_taken taken (field_line key field s at) → read_form (line key field taken more) number s at ≡ Err (refusal e number)
   unfolding read_form after
-  stopped e = rw (sym q, e)
+  stopped q = rw (← q)
 
-  pub went_on : {v : Items} {next : ℕ} → r ≡ Ok (v, next) → read_form (line key field taken more) number s at ≡ read_form (more v) (suc number) s next
+  pub went_on : {v : Items} {next : ℕ} → Ok (v, next) ≡ unless_taken taken (field_line key field s at)
+      → read_form (line key field taken more) number s at ≡ read_form (more v) (suc number) s next
   unfolding read_form after
-  went_on e = rw (sym q, e)
+  went_on q = rw (← q)
 
 -- the end
 module _ (l : Layer) (number : ℕ) (s : List ℕ) (at : ℕ) where
