@@ -104,11 +104,8 @@ fn fill(s: Shape, input: &[f32], kernel: &[f32], output: &mut [f32])
     requires output_len { length output.old ≡ s.outputs }
     ensures { output.new ≡ tabulate (output_of Halved (place_of s) s.taps input.now kernel.now) s.outputs }
 {
-    let mut j = 0;
-    while j < output.len() {
-        let o = output_at(s, j);
-        output[j] = halved_sum(input, kernel, o, 0, s.taps);
-        j += 1;
+    for (j, out) in output.iter_mut().enumerate() {
+        *out = halved_sum(input, kernel, output_at(s, j), 0, s.taps);
     }
 }
 

@@ -19,14 +19,9 @@ use taps::{taps_inside, turned};
 fn pairs_by_position(s: Span) -> usize
     ensures { result ≡ pairs_inside s }
 {
-    let out = s.out;
     let mut pairs = 0;
-    let mut p: u32 = 0;
-    while p < out {
-        let t = taps_inside(s, p);
-        let count = t.count;
-        pairs += count;
-        p += 1;
+    for p in 0..s.out {
+        pairs += taps_inside(s, p).count;
     }
     pairs
 }

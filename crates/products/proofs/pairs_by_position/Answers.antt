@@ -1,8 +1,6 @@
--- Up to position p, the pairs of the positions before it. A position has at most as many as there are taps, so all of them are below 2^64.
-use native.Mathlib.Numerals.{add-one}
-use native.Mathlib.Omega.{arith}
-use Prim.Native.Nat.{◌+◌}
-use mathlib.Core.Path.{◌≡◌, sym, ap₂, ◌∙◌}
+-- A position has at most as many pairs as there are taps, so all of them are below 2^64.
+use Rattle.std.proofs.Common.{arith, add-one, sym, ◌∙◌, ◌+◌, ◌≡◌}
+use mathlib.Core.Path.{ap₂}
 use Rattle.sizes.proofs.Division.{times_le}
 use Rattle.taps.specs.Taps.{tap_inside}
 use Rattle.products.specs.Axes.{pairs_inside}
@@ -11,16 +9,16 @@ use Rattle.products.proofs.Pairs.{count_most, pairs_most, exactly_count}
 use Rattle.products.proofs.pairs_by_position.Goals as goal
 
 pub loop-p-init : goal.loop-p-init
-loop-p-init c = (omega arith, sym (sum_none _))
+loop-p-init c = sym (sum_none _)
 
 pub overflow_add-pairs : goal.overflow_add-pairs
 overflow_add-pairs c =
     let l = c.loop-p in
     let s = c.args.s in
-    let k = exactly_count c.taps_inside-t.ensures in
+    let k = exactly_count c.taps_inside-pairs.ensures in
     omega (
       arith,
-      l.invariant.1,
+      l.invariant,
       k,
       count_most s.kernel (tap_inside s l.p),
       pairs_most l.p s.kernel (tap_inside s),
@@ -29,19 +27,11 @@ overflow_add-pairs c =
 
 pub loop-p-preserved : goal.loop-p-preserved
 loop-p-preserved c =
-    let l = c.loop-p in (
-      omega arith,
-      rw (add-one l.p) (ap₂ (λ a b. a + b) l.invariant.1 (sym (exactly_count c.taps_inside-t.ensures)) ∙ sym (sum_more l.p _)),
-    )
+    let l = c.loop-p in
+    rw (add-one l.p) (ap₂ (λ a b. a + b) l.invariant (sym (exactly_count c.taps_inside-pairs.ensures)) ∙ sym (sum_more l.p _))
 
 pub returns : goal.returns
 unfolding pairs_inside
 returns c =
     let e : c.loop-p.p ≡ c.args.s.out = omega arith in
-    rw e at c.loop-p.invariant.1
-
-pub overflow_add-p : goal.overflow_add-p
-overflow_add-p c = omega arith
-
-pub loop-p-smaller : goal.loop-p-smaller
-loop-p-smaller c = omega arith
+    rw e at c.loop-p.invariant
