@@ -1,19 +1,22 @@
 -- Bounds of a line of outputs of a sound shape: its row, and the plane of the input that it is taken from.
-use Prim.Native.Nat.{ℕ, ◌+◌, ◌*◌, ◌/◌, ◌%◌, ◌≤◌}
-use native.Mathlib.Nat.{mod-lt, mul-le-mul_right}
+use Prim.Native.Nat.{ℕ, ◌+◌, ◌*◌, ◌/◌, ◌≤◌}
+use native.Mathlib.Nat.{mul-le-mul_right, le-mul_of_pos_right}
 use native.Mathlib.Omega.{arith}
-use mathlib.Core.Path.{◌≡◌, ap}
+use mathlib.Core.Path.{◌≡◌, sym, ap, ◌∙◌}
 use Rattle.layer.proofs.Places.{part_within, div_within}
 use Rattle.shape.specs.declared.Shape.{Shape}
 use Rattle.shape.specs.Facts.{Pooled}
-use Rattle.shape.specs.Volumes.{input_rows, out_rows}
+use Rattle.shape.specs.Volumes.{input_rows, out_rows, on_rows}
+use Rattle.shape.proofs.Volumes.{rows_below}
+use Rattle.taps.specs.declared.Tap.{Tap}
+use Rattle.taps.specs.declared.Tap.TheVariants.{At}
+use Rattle.taps.specs.Joins.{forward}
+use Rattle.taps.proofs.Joins.{forward_below, below_at}
 use Rattle.tensor.proofs.Lines.{line_start}
 use Rattle.call.proofs.Planes.{products}
 
--- of a line, from the numbers of rows that the code is told: its row in the plane, the number of the plane's row 0 in the input, and the plane's end
+-- of a line, from the numbers of rows that the code is told: the number of its plane's row 0 in the input, and the plane's end
 pub record PlaneAt (s : Shape) (line rows height : ℕ) : Type 0 where
-  pub rows_1 : 1 ≤ rows
-  pub row : line % rows ≤ 16777216
   pub first : line / rows * height ≤ 16777216
   pub end : (line / rows * height + input_rows s) * s.x.input ≤ s.inputs
 
@@ -28,8 +31,22 @@ plane_of_lem s g line l er eh =
     let rows = part_within {a = line / out_rows s} {n = s.n * s.c} (input_rows s) (omega arith) in
     rw (er, eh)
     (record {
-      rows_1 = h.out_rows_1;
-      row = omega (arith, mod-lt line h.out_rows_1, k.out_rows_max);
       first = omega (arith, rows, k.lines_inputs, h.inputs_max);
       end = omega (arith, mul-le-mul_right s.x.input rows, h.inputs_is);
     })
+
+-- a row of the plane whose row 0 is number `first`, where a tap was found to lie in row r: its part of the input
+pub record RowAt (s : Shape) (first r : ℕ) : Type 0 where
+  pub row : (first + r) * s.x.input + s.x.input ≤ s.inputs
+  pub number : first + r ≤ s.inputs
+  pub inputs_max : s.inputs ≤ 16777216
+
+pub row_at : (s : Shape) (p k : ℕ) {first r : ℕ} {t : Tap} → Pooled s → (first + input_rows s) * s.x.input ≤ s.inputs → t ≡ on_rows forward s p k → t ≡ At r → RowAt s first r
+row_at s p k {first} {r} g l e i =
+    let b = below_at _ _ _ (rows_below forward s forward_below p k) (sym e ∙ i) in
+    let m = part_within {a = first + r} {n = first + input_rows s} s.x.input (omega (arith, b)) in
+    record {
+      row = omega (arith, m, l);
+      number = omega (arith, m, l, le-mul_of_pos_right (first + r) g.sound.x.input_1);
+      inputs_max = g.sound.inputs_max;
+    }

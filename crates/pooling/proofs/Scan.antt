@@ -1,9 +1,8 @@
 -- Laws of a window's taps: a scan of them is the fold over the places that they give, and the positions of a kernel are its rows one after the other.
 use mathlib.Core.Path.{◌≡◌, refl, sym, ap, ap₂, ◌∙◌, fun_ext}
 use mathlib.Core.List.{List, [], ◌∷◌, ◌++◌, append_assoc, append-nil}
-use Prim.Native.Nat.{ℕ, zero, suc, ◌+◌, ◌-◌, ◌*◌, ◌/◌, ◌%◌, ◌≤◌, ◌<◌}
+use Prim.Native.Nat.{ℕ, zero, suc, ◌+◌, ◌-◌, ◌*◌, ◌/◌, ◌%◌, ◌<◌}
 use native.Mathlib.Nat.{add-zero, add-suc, zero-mul, suc-mul, add-sub_cancel_left}
-use native.Mathlib.Numerals.{add-one}
 use native.Mathlib.Omega.{arith}
 use lib.ListN.{take, drop}
 use lib.Ieee.{Float}
@@ -26,22 +25,8 @@ use Rattle.call.proofs.Planes.{plane_parts, line_flat}
 use Rattle.pooling.specs.Windows.{at_tap, over_taps, window_of}
 use Rattle.pooling.specs.Steps.{after_tap, after_taps, column_step, line_places, row_step, plane_window}
 
--- ---- the scan, as a loop: before the first tap, one more tap, after the last
+-- ---- a scan of taps passes the elements of their places
 module _ (tap : ℕ → Tap) where
-  pub taps_none : (step : ℕ → Window → Window) (w : Window) → w ≡ after_taps tap step 0 w
-  unfolding after_taps
-  taps_none step w = refl
-
-  pub taps_more : (step : ℕ → Window → Window) (w : Window) (k : ℕ) {best next : Window} → best ≡ after_taps tap step k w → next ≡ after_tap step (tap k) best
-      → next ≡ after_taps tap step (k + 1) w
-  unfolding after_taps
-  taps_more step w k b n = rw add-one (n ∙ ap (after_tap step (tap k)) b)
-
-  pub taps_all : (step : ℕ → Window → Window) (w : Window) (k n : ℕ) {best : Window} → k ≤ n → n ≤ k → best ≡ after_taps tap step k w → best ≡ after_taps tap step n w
-  taps_all step w k n h l b =
-      let e : k ≡ n = omega arith in
-      b ∙ ap (λ i. after_taps tap step i w) e
-
   -- where each step passes the elements of its places, the scan passes those of all
   module _ (size : ℕ) (below : (k : ℕ) → Below size (tap k)) (xs : List Float) (step : ℕ → Window → Window) (f : ℕ → List ℕ)
       (same : (c : ℕ) (w : Window) → c < size → step c w ≡ best_of xs (f c) w) where

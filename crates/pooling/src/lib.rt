@@ -4,7 +4,7 @@
 ghost use Rattle.std.specs.Prelude.{◌+◌, ◌*◌, ◌≤◌, ◌<◌, ◌^◌, ◌≡◌, length};
 ghost use Rattle.taps.specs.Joins.{forward};
 ghost use Rattle.shape.specs.Facts.{Pooled};
-ghost use Rattle.shape.specs.Volumes.{input_rows, kernel_rows, on_rows};
+ghost use Rattle.shape.specs.Volumes.{input_rows, on_rows};
 ghost use Rattle.tensor.specs.Table.{tabulate};
 ghost use Rattle.pooling.specs.Call.{value_of, index_of, pooled_value, pooled_index, max_pool_answer, max_pool_values, max_pool_indices};
 ghost use Rattle.pooling.specs.Steps.{after_tap, after_taps, column_step, row_step, plane_window};
@@ -15,6 +15,15 @@ use shape::{Shape, input_rows, kernel_rows, out_rows, row_tap};
 use sizes::Span;
 use taps::{Direction, Tap, forward};
 use tensor::{Window, better};
+
+// The lent input of a call, with the shape that it fits.
+#[derive(Clone, Copy)]
+struct Pooling<'a> {
+    shape: Shape,
+    input: &'a [f32],
+    ghost pooled: { Pooled shape },
+    ghost input_len: { length input.now ≡ shape.inputs },
+}
 
 // ---- the window scan
 
@@ -31,51 +40,80 @@ fn with_tap(row: &[f32], start: usize, x: Span, q: u32, k: u32, w: Window) -> Wi
 }
 
 // The window after every tap of a row.
+#[tactic(auto, unfolding(crate::specs::Steps::after_taps))]
 fn scan_row(row: &[f32], start: usize, x: Span, q: u32, w: Window) -> Window
     requires { (length row.now ≡ x.input) × (start + x.input < 2 ^ 62) }
     ensures { result ≡ after_taps (forward x q) (column_step row.now start) x.kernel w }
 {
     let mut best = w;
-    let mut k: u32 = 0;
-    let kernel = x.kernel;
-    while k < kernel {
+    for k in 0..x.kernel {
         best = with_tap(row, start, x, q, k, best);
-        k += 1;
     }
     best
 }
 
-// The window after the taps of kernel row k, in the plane whose row 0 is number `first` of all rows of the input.
-fn with_row(s: Shape, input: &[f32], first: usize, p: u32, q: u32, k: u32, w: Window) -> Window
-    requires { (1 ≤ s.x.input) × ((first + input_rows s) * s.x.input ≤ length input.now) }
-    ensures { result ≡ after_tap (row_step input.now first s.x q) (on_rows forward s p k) w }
-{
-    let t = row_tap(Direction::Forward, s, p, k);
-    match t {
-        Tap::Outside => w,
-        Tap::At(r) => {
-            let width = s.x.input as usize;
-            let from = (first + r) * width;
-            let to = from + width;
-            scan_row(&input[from..to], from, s.x, q, w)
+impl Pooling<'_> {
+    // The window after the taps of kernel row k, in the plane whose row 0 is number `first` of all rows of the input.
+    fn with_row(&self, first: usize, p: u32, q: u32, k: u32, w: Window) -> Window
+        requires { (first + input_rows self.now.shape) * self.now.shape.x.input ≤ self.now.shape.inputs }
+        ensures { result ≡ after_tap (row_step self.now.input.now first self.now.shape.x q) (on_rows forward self.now.shape p k) w }
+    {
+        let t = row_tap(Direction::Forward, self.shape, p, k);
+        match t {
+            Tap::Outside => w,
+            Tap::At(r) => {
+                let x = self.shape.x;
+                let width = x.input as usize;
+                let from = (first + r) * width;
+                let to = from + width;
+                scan_row(&self.input[from..to], from, x, q, w)
+            }
         }
     }
-}
 
-// The window of a plane at output row p and column q.
-fn scan_window(s: Shape, input: &[f32], first: usize, p: u32, q: u32) -> Window
-    requires sizes { (1 ≤ s.x.input) × (kernel_rows s ≤ 4096) }
-    requires input_in_bounds { (first + input_rows s) * s.x.input ≤ length input.now }
-    ensures { result ≡ plane_window input.now first s p q Window.Empty }
-{
-    let mut best = Window::Empty;
-    let mut k = 0usize;
-    let kernel = kernel_rows(s);
-    while k < kernel {
-        best = with_row(s, input, first, p, q, k as u32, best);
-        k += 1;
+    // The window of a plane at output row p and column q.
+    #[tactic(auto, unfolding(crate::specs::Steps::after_taps))]
+    fn scan_window(&self, first: usize, p: u32, q: u32) -> Window
+        requires { (first + input_rows self.now.shape) * self.now.shape.x.input ≤ self.now.shape.inputs }
+        ensures { result ≡ plane_window self.now.input.now first self.now.shape p q Window.Empty }
+    {
+        let mut best = Window::Empty;
+        for k in 0..kernel_rows(self.shape) {
+            best = self.with_row(first, p, q, k as u32, best);
+        }
+        best
     }
-    best
+
+    // Writes the value and the index of each output of one row, of number `line` among all rows.
+    fn fill_line(&self, line: usize, values: &mut [f32], indices: &mut [i64])
+        requires line_in { line * self.now.shape.x.out + self.now.shape.x.out ≤ self.now.shape.outputs }
+        requires values_len { (length values.old ≡ self.now.shape.x.out) × (length indices.old ≡ self.now.shape.x.out) }
+        ensures values_after { values.new ≡ tabulate (λ q. pooled_value self.now.input.now self.now.shape (line * self.now.shape.x.out + q)) self.now.shape.x.out }
+        ensures indices_after { indices.new ≡ tabulate (λ q. pooled_index self.now.input.now self.now.shape (line * self.now.shape.x.out + q)) self.now.shape.x.out }
+    {
+        let rows = out_rows(self.shape);
+        let first = line / rows * input_rows(self.shape);
+        let p = (line % rows) as u32;
+        for q in 0..values.len() {
+            let w = self.scan_window(first, p, q as u32);
+            values[q] = value_of(w);
+            indices[q] = index_of(self.shape.modulus, w);
+        }
+    }
+
+    // Writes the value and the index of every output, row by row.
+    fn fill(&self, values: &mut [f32], indices: &mut [i64])
+        requires values_len { (length values.old ≡ self.now.shape.outputs) × (length indices.old ≡ self.now.shape.outputs) }
+        ensures values_after { values.new ≡ tabulate (pooled_value self.now.input.now self.now.shape) self.now.shape.outputs }
+        ensures indices_after { indices.new ≡ tabulate (pooled_index self.now.input.now self.now.shape) self.now.shape.outputs }
+    {
+        let width = self.shape.x.out as usize;
+        for line in 0..values.len() / width {
+            let from = line * width;
+            let to = from + width;
+            self.fill_line(line, &mut values[from..to], &mut indices[from..to]);
+        }
+    }
 }
 
 // ---- value and index
@@ -103,49 +141,6 @@ fn index_of(modulus: usize, w: Window) -> i64
 
 // ---- the call
 
-// Writes the value and the index of each output of one row, of number `line` among all rows.
-fn fill_line(s: Shape, input: &[f32], line: usize, values: &mut [f32], indices: &mut [i64])
-    requires pooled { Pooled s }
-    requires input_len { (length input.now ≡ s.inputs) × (line * s.x.out + s.x.out ≤ s.outputs) }
-    requires values_len { (length values.old ≡ s.x.out) × (length indices.old ≡ s.x.out) }
-    ensures values_after { values.new ≡ tabulate (λ q. pooled_value input.now s (line * s.x.out + q)) s.x.out }
-    ensures indices_after { indices.new ≡ tabulate (λ q. pooled_index input.now s (line * s.x.out + q)) s.x.out }
-{
-    let rows = out_rows(s);
-    let first = line / rows * input_rows(s);
-    let p = (line % rows) as u32;
-    let modulus = s.modulus;
-    let mut q = 0usize;
-    let n = values.len();
-    while q < n {
-        let column = q as u32;
-        let w = scan_window(s, input, first, p, column);
-        values[q] = value_of(w);
-        let index = index_of(modulus, w);
-        indices[q] = index;
-        q += 1;
-    }
-}
-
-// Writes the value and the index of every output, row by row.
-fn fill(s: Shape, input: &[f32], values: &mut [f32], indices: &mut [i64])
-    requires pooled { Pooled s }
-    requires input_len { (length input.now ≡ s.inputs) × (length values.old ≡ s.outputs) × (length indices.old ≡ s.outputs) }
-    ensures values_after { values.new ≡ tabulate (pooled_value input.now s) s.outputs }
-    ensures indices_after { indices.new ≡ tabulate (pooled_index input.now s) s.outputs }
-{
-    let width = s.x.out as usize;
-    let mut line = 0usize;
-    let mut j = 0usize;
-    let n = values.len();
-    while j < n {
-        let end = j + width;
-        fill_line(s, input, line, &mut values[j..end], &mut indices[j..end]);
-        line += 1;
-        j = end;
-    }
-}
-
 // Max pooling: checks 1 to 9, and only then every output. No call is asked to be valid: each is answered.
 pub fn max_pool(layer: Layer, input: &[f32], values: &mut [f32], indices: &mut [i64]) -> Answer
     ensures answer { result ≡ max_pool_answer layer input.now values.old indices.old }
@@ -155,8 +150,9 @@ pub fn max_pool(layer: Layer, input: &[f32], values: &mut [f32], indices: &mut [
     let verdict = check_pool(layer, input, values.len(), indices.len());
     match verdict {
         Verdict::Refuse(answer) => answer,
-        Verdict::Run(s) => {
-            fill(s, input, values, indices);
+        Verdict::Run(shape) => {
+            let pooling = Pooling { shape, input };
+            pooling.fill(values, indices);
             Answer::numbered(0)
         }
     }
