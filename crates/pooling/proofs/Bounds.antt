@@ -1,4 +1,5 @@
 -- Bounds of a line of outputs of a sound shape: its row, and the plane of the input that it is taken from.
+use Rattle.std.specs.Prelude.{Option, Some}
 use Prim.Native.Nat.{ℕ, ◌+◌, ◌*◌, ◌/◌, ◌≤◌}
 use native.Mathlib.Nat.{mul-le-mul_right, le-mul_of_pos_right}
 use native.Mathlib.Omega.{arith}
@@ -8,8 +9,6 @@ use Rattle.shape.specs.declared.Shape.{Shape}
 use Rattle.shape.specs.Facts.{Pooled}
 use Rattle.shape.specs.Volumes.{input_rows, out_rows, on_rows}
 use Rattle.shape.proofs.Volumes.{rows_below}
-use Rattle.taps.specs.declared.Tap.{Tap}
-use Rattle.taps.specs.declared.Tap.TheVariants.{At}
 use Rattle.taps.specs.Joins.{forward}
 use Rattle.taps.proofs.Joins.{forward_below, below_at}
 use Rattle.tensor.proofs.Lines.{line_start}
@@ -41,7 +40,7 @@ pub record RowAt (s : Shape) (first r : ℕ) : Type 0 where
   pub number : first + r ≤ s.inputs
   pub inputs_max : s.inputs ≤ 16777216
 
-pub row_at : (s : Shape) (p k : ℕ) {first r : ℕ} {t : Tap} → Pooled s → (first + input_rows s) * s.x.input ≤ s.inputs → t ≡ on_rows forward s p k → t ≡ At r → RowAt s first r
+pub row_at : (s : Shape) (p k : ℕ) {first r : ℕ} {t : Option ℕ} → Pooled s → (first + input_rows s) * s.x.input ≤ s.inputs → t ≡ on_rows forward s p k → t ≡ Some r → RowAt s first r
 row_at s p k {first} {r} g l e i =
     let b = below_at _ _ _ (rows_below forward s forward_below p k) (sym e ∙ i) in
     let m = part_within {a = first + r} {n = first + input_rows s} s.x.input (omega (arith, b)) in

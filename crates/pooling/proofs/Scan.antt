@@ -1,4 +1,5 @@
 -- Laws of a window's taps: a scan of them is the fold over the places that they give, and the positions of a kernel are its rows one after the other.
+use Rattle.std.specs.Prelude.{None, Option, Some}
 use mathlib.Core.Path.{◌≡◌, refl, sym, ap, ap₂, ◌∙◌, fun_ext}
 use mathlib.Core.List.{List, [], ◌∷◌, ◌++◌, append_assoc, append-nil}
 use Prim.Native.Nat.{ℕ, zero, suc, ◌+◌, ◌-◌, ◌*◌, ◌/◌, ◌%◌, ◌<◌}
@@ -8,8 +9,6 @@ use lib.ListN.{take, drop}
 use lib.Ieee.{Float}
 use Rattle.layer.proofs.Places.{place_div, place_mod}
 use Rattle.sizes.specs.declared.Span.{Span}
-use Rattle.taps.specs.declared.Tap.{Tap}
-use Rattle.taps.specs.declared.Tap.TheVariants.{Outside, At}
 use Rattle.taps.specs.Joins.{forward, both, Below}
 use Rattle.taps.proofs.Joins.{forward_below, below_at}
 use Rattle.shape.specs.declared.Shape.{Shape}
@@ -26,14 +25,14 @@ use Rattle.pooling.specs.Windows.{at_tap, over_taps, window_of}
 use Rattle.pooling.specs.Steps.{after_tap, after_taps, column_step, line_places, row_step, plane_window}
 
 -- ---- a scan of taps passes the elements of their places
-module _ (tap : ℕ → Tap) where
+module _ (tap : ℕ → Option ℕ) where
   -- where each step passes the elements of its places, the scan passes those of all
   module _ (size : ℕ) (below : (k : ℕ) → Below size (tap k)) (xs : List Float) (step : ℕ → Window → Window) (f : ℕ → List ℕ)
       (same : (c : ℕ) (w : Window) → c < size → step c w ≡ best_of xs (f c) w) where
-    after_tap_lem : (k : ℕ) (t : Tap) (w : Window) → tap k ≡ t → after_tap step t w ≡ best_of xs (at_tap f t) w
+    after_tap_lem : (k : ℕ) (t : Option ℕ) (w : Window) → tap k ≡ t → after_tap step t w ≡ best_of xs (at_tap f t) w
     unfolding best_of
-    after_tap_lem k Outside w e = refl
-    after_tap_lem k (At c) w e = same c w (below_at size (tap k) c (below k) e)
+    after_tap_lem k None w e = refl
+    after_tap_lem k (Some c) w e = same c w (below_at size (tap k) c (below k) e)
 
     pub scan_places : (n : ℕ) (w : Window) → after_taps tap step n w ≡ best_of xs (over_taps tap f n) w
     unfolding after_taps over_taps best_of
@@ -44,44 +43,44 @@ module _ (tap : ℕ → Tap) where
         ∙ sym (best_append xs (over_taps tap f k) (at_tap f (tap k)) w)
 
 -- ---- places: taps that agree, and taps one after the other
-over_same : (n : ℕ) (tap other : ℕ → Tap) (f : ℕ → List ℕ) → ((k : ℕ) → k < n → tap k ≡ other k) → over_taps tap f n ≡ over_taps other f n
+over_same : (n : ℕ) (tap other : ℕ → Option ℕ) (f : ℕ → List ℕ) → ((k : ℕ) → k < n → tap k ≡ other k) → over_taps tap f n ≡ over_taps other f n
 unfolding over_taps
 over_same zero tap other f h = refl
 over_same (suc n) tap other f h =
     ap₂ (λ (a b : List ℕ). a ++ b) (over_same n tap other f (λ k l. h k (omega arith))) (ap (at_tap f) (h n (omega arith)))
 
-over_append : (n m : ℕ) (tap : ℕ → Tap) (f : ℕ → List ℕ) → over_taps tap f (n + m) ≡ over_taps tap f n ++ over_taps (λ j. tap (n + j)) f m
+over_append : (n m : ℕ) (tap : ℕ → Option ℕ) (f : ℕ → List ℕ) → over_taps tap f (n + m) ≡ over_taps tap f n ++ over_taps (λ j. tap (n + j)) f m
 unfolding over_taps
 over_append n zero tap f = rw add-zero (sym (append-nil (over_taps tap f n)))
 over_append n (suc m) tap f =
     rw (add-suc, over_append n m tap f) (append_assoc (over_taps tap f n) (over_taps (λ j. tap (n + j)) f m) (at_tap f (tap (n + m))))
 
 -- ---- a kernel row: its taps lie inside where the row does
-both_at : (size r : ℕ) (t : Tap) (f : ℕ → List ℕ) → at_tap f (both size (At r) t) ≡ at_tap (λ c. f (r * size + c)) t
+both_at : (size r : ℕ) (t : Option ℕ) (f : ℕ → List ℕ) → at_tap f (both size (Some r) t) ≡ at_tap (λ c. f (r * size + c)) t
 unfolding both
-both_at size r (At c) f = refl
-both_at size r Outside f = refl
+both_at size r (Some c) f = refl
+both_at size r None f = refl
 
-both_outside_lem : (size : ℕ) (t : Tap) (f : ℕ → List ℕ) → at_tap f (both size Outside t) ≡ []
+both_outside_lem : (size : ℕ) (t : Option ℕ) (f : ℕ → List ℕ) → at_tap f (both size None t) ≡ []
 unfolding both
 both_outside_lem size t f = refl
 
-row_inside : (size r m : ℕ) (tap : ℕ → Tap) (f : ℕ → List ℕ) → over_taps (λ j. both size (At r) (tap j)) f m ≡ over_taps tap (λ c. f (r * size + c)) m
+row_inside : (size r m : ℕ) (tap : ℕ → Option ℕ) (f : ℕ → List ℕ) → over_taps (λ j. both size (Some r) (tap j)) f m ≡ over_taps tap (λ c. f (r * size + c)) m
 unfolding over_taps
 row_inside size r zero tap f = refl
 row_inside size r (suc m) tap f = ap₂ (λ (a b : List ℕ). a ++ b) (row_inside size r m tap f) (both_at size r (tap m) f)
 
-row_outside : (size m : ℕ) (tap : ℕ → Tap) (f : ℕ → List ℕ) → over_taps (λ j. both size Outside (tap j)) f m ≡ []
+row_outside : (size m : ℕ) (tap : ℕ → Option ℕ) (f : ℕ → List ℕ) → over_taps (λ j. both size None (tap j)) f m ≡ []
 unfolding over_taps
 row_outside size zero tap f = refl
 row_outside size (suc m) tap f = ap₂ (λ (a b : List ℕ). a ++ b) (row_outside size m tap f) (both_outside_lem size (tap m) f)
 
-over_row : (size m : ℕ) (row : Tap) (tap : ℕ → Tap) (f : ℕ → List ℕ) → over_taps (λ j. both size row (tap j)) f m ≡ at_tap (λ r. over_taps tap (λ c. f (r * size + c)) m) row
-over_row size m (At r) tap f = row_inside size r m tap f
-over_row size m Outside tap f = row_outside size m tap f
+over_row : (size m : ℕ) (row : Option ℕ) (tap : ℕ → Option ℕ) (f : ℕ → List ℕ) → over_taps (λ j. both size row (tap j)) f m ≡ at_tap (λ r. over_taps tap (λ c. f (r * size + c)) m) row
+over_row size m (Some r) tap f = row_inside size r m tap f
+over_row size m None tap f = row_outside size m tap f
 
 -- ---- two axes as one, the inner with m taps and `size` positions: the taps of the inner axis, once for each of the outer
-module _ (m size : ℕ) (tap outer inner : ℕ → Tap) (is : (a b : ℕ) → b < m → tap (a * m + b) ≡ both size (outer a) (inner b)) (f : ℕ → List ℕ) where
+module _ (m size : ℕ) (tap outer inner : ℕ → Option ℕ) (is : (a b : ℕ) → b < m → tap (a * m + b) ≡ both size (outer a) (inner b)) (f : ℕ → List ℕ) where
   pub over_both : (n : ℕ) → over_taps tap f (n * m) ≡ over_taps outer (λ r. over_taps inner (λ c. f (r * size + c)) m) n
   unfolding over_taps
   over_both zero = rw zero-mul

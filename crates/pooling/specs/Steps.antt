@@ -1,8 +1,6 @@
 -- For the code, and no part of what is promised: the scan of a window, kernel row by kernel row. A line is a row of a plane, numbered through all planes.
-use Rattle.std.specs.Prelude.{ℕ, zero, suc, ◌+◌, ◌*◌, List, [], ◌∷◌, Float}
+use Rattle.std.specs.Prelude.{ℕ, zero, suc, ◌+◌, ◌*◌, List, [], ◌∷◌, Float, None, Option, Some}
 use Rattle.sizes.specs.declared.Span.{Span}
-use Rattle.taps.specs.declared.Tap.{Tap}
-use Rattle.taps.specs.declared.Tap.TheVariants.{Outside, At}
 use Rattle.taps.specs.Joins.{forward}
 use Rattle.shape.specs.declared.Shape.{Shape}
 use Rattle.shape.specs.Volumes.{kernel_rows, on_rows}
@@ -12,12 +10,12 @@ use Rattle.tensor.specs.Window.{better_of, best_of}
 use Rattle.pooling.specs.Windows.{over_taps}
 
 -- the window w after one tap: `step` where the tap lies inside
-abbrev pub after_tap : (ℕ → Window → Window) → Tap → Window → Window
-after_tap step Outside w = w
-after_tap step (At c) w = step c w
+abbrev pub after_tap : (ℕ → Window → Window) → Option ℕ → Window → Window
+after_tap step None w = w
+after_tap step (Some c) w = step c w
 
 -- the window w after the taps 0, 1, .., n - 1
-unfoldable pub after_taps : (ℕ → Tap) → (ℕ → Window → Window) → ℕ → Window → Window
+unfoldable pub after_taps : (ℕ → Option ℕ) → (ℕ → Window → Window) → ℕ → Window → Window
 after_taps tap step zero w = w
 after_taps tap step (suc k) w = after_tap step (tap k) (after_taps tap step k w)
 

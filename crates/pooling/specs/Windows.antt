@@ -1,8 +1,6 @@
 -- The window of each output: "Pooling: taps as for convolution, in each channel of each image; taps outside the input are no elements". "A window holds either
 -- nothing, or a best value with its place."
-use Rattle.std.specs.Prelude.{ℕ, zero, suc, ◌+◌, ◌*◌, ◌/◌, ◌%◌, List, [], ◌∷◌, ◌++◌, Float}
-use Rattle.taps.specs.declared.Tap.{Tap}
-use Rattle.taps.specs.declared.Tap.TheVariants.{Outside, At}
+use Rattle.std.specs.Prelude.{ℕ, zero, suc, ◌+◌, ◌*◌, ◌/◌, ◌%◌, List, [], ◌∷◌, ◌++◌, Float, None, Option, Some}
 use Rattle.taps.specs.Joins.{forward}
 use Rattle.shape.specs.declared.Shape.{Shape}
 use Rattle.shape.specs.Volumes.{input_volume, kernel_volume, out_volume, on_plane}
@@ -11,12 +9,12 @@ use Rattle.tensor.specs.declared.Window.TheVariants.{Empty}
 use Rattle.tensor.specs.Window.{best_of}
 
 -- "taps outside the input are no elements"
-abbrev pub at_tap : (ℕ → List ℕ) → Tap → List ℕ
-at_tap f Outside = []
-at_tap f (At q) = f q
+abbrev pub at_tap : (ℕ → List ℕ) → Option ℕ → List ℕ
+at_tap f None = []
+at_tap f (Some q) = f q
 
 -- what f gives for where the taps 0, 1, .., n - 1 lie, one after the other
-unfoldable pub over_taps : (ℕ → Tap) → (ℕ → List ℕ) → ℕ → List ℕ
+unfoldable pub over_taps : (ℕ → Option ℕ) → (ℕ → List ℕ) → ℕ → List ℕ
 over_taps tap f zero = []
 over_taps tap f (suc k) = over_taps tap f k ++ at_tap f (tap k)
 

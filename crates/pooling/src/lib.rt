@@ -9,11 +9,11 @@ ghost use Rattle.tensor.specs.Table.{tabulate};
 ghost use Rattle.pooling.specs.Call.{value_of, index_of, pooled_value, pooled_index, max_pool_answer, max_pool_values, max_pool_indices};
 ghost use Rattle.pooling.specs.Steps.{after_tap, after_taps, column_step, row_step, plane_window};
 
-use call::{Verdict, check_pool};
-use layer::{Answer, Layer};
+use call::check_pool;
+use layer::{Layer, Refusal};
 use shape::{Shape, input_rows, kernel_rows, out_rows, row_tap};
 use sizes::Span;
-use taps::{Direction, Tap, forward};
+use taps::{Direction, forward};
 use tensor::{Window, better};
 
 // The lent input of a call, with the shape that it fits.
@@ -34,8 +34,8 @@ fn with_tap(row: &[f32], start: usize, x: Span, q: u32, k: u32, w: Window) -> Wi
 {
     let t = forward(x, q, k);
     match t {
-        Tap::Outside => w,
-        Tap::At(c) => better(w, row[c], start + c),
+        None => w,
+        Some(c) => better(w, row[c], start + c),
     }
 }
 
@@ -60,8 +60,8 @@ impl Pooling<'_> {
     {
         let t = row_tap(Direction::Forward, self.shape, p, k);
         match t {
-            Tap::Outside => w,
-            Tap::At(r) => {
+            None => w,
+            Some(r) => {
                 let x = self.shape.x;
                 let width = x.input as usize;
                 let from = (first + r) * width;
@@ -142,18 +142,18 @@ fn index_of(modulus: usize, w: Window) -> i64
 // ---- the call
 
 // Max pooling: checks 1 to 9, and only then every output. No call is asked to be valid: each is answered.
-pub fn max_pool(layer: Layer, input: &[f32], values: &mut [f32], indices: &mut [i64]) -> Answer
+pub fn max_pool(
+    layer: Layer,
+    input: &[f32],
+    values: &mut [f32],
+    indices: &mut [i64],
+) -> Result<(), Refusal>
     ensures answer { result ≡ max_pool_answer layer input.now values.old indices.old }
     ensures values { values.new ≡ max_pool_values layer input.now values.old indices.old }
     ensures indices { indices.new ≡ max_pool_indices layer input.now values.old indices.old }
 {
-    let verdict = check_pool(layer, input, values.len(), indices.len());
-    match verdict {
-        Verdict::Refuse(answer) => answer,
-        Verdict::Run(shape) => {
-            let pooling = Pooling { shape, input };
-            pooling.fill(values, indices);
-            Answer::numbered(0)
-        }
-    }
+    let shape = check_pool(layer, input, values.len(), indices.len())?;
+    let pooling = Pooling { shape, input };
+    pooling.fill(values, indices);
+    Ok(())
 }

@@ -7,14 +7,14 @@ use Rattle.pooling.proofs.with_tap.Goals as goal
 pub offset_bounds-row-c : goal.offset_bounds-row-c
 offset_bounds-row-c c =
     let a = c.args in
-    omega (arith, below_at _ _ _ (forward_below a.x a.q a.k) (sym c.forward-t.ensures ∙ c.in-At.is))
+    omega (arith, below_at _ _ _ (forward_below a.x a.q a.k) (sym c.forward-t.ensures ∙ c.in-Some.is))
 
 pub bounds-row-c : goal.bounds-row-c
 bounds-row-c c =
     let a = c.args in
-    omega (arith, below_at _ _ _ (forward_below a.x a.q a.k) (sym c.forward-t.ensures ∙ c.in-At.is))
+    omega (arith, below_at _ _ _ (forward_below a.x a.q a.k) (sym c.forward-t.ensures ∙ c.in-Some.is))
 
 pub overflow_add-start : goal.overflow_add-start
 overflow_add-start c =
     let a = c.args in
-    omega (arith, below_at _ _ _ (forward_below a.x a.q a.k) (sym c.forward-t.ensures ∙ c.in-At.is))
+    omega (arith, below_at _ _ _ (forward_below a.x a.q a.k) (sym c.forward-t.ensures ∙ c.in-Some.is))
