@@ -7,7 +7,7 @@ use Rattle.layer.specs.declared.Op.TheVariants.{Convolution, Transposed, MaxPool
 use Rattle.layer.specs.declared.AutoPad.TheVariants.{Explicit}
 use Rattle.layer.specs.declared.Rounding.TheVariants.{Floor}
 use Rattle.layer.specs.declared.Layer.{Layer}
-use Rattle.layer.specs.Answers.{numbered}
+use Rattle.layer.specs.Refusals.{done}
 use Rattle.sizes.specs.declared.Span.{Span}
 use Rattle.taps.specs.Taps.{tap_position}
 use Rattle.shape.specs.declared.Shape.{Shape}
@@ -43,7 +43,7 @@ abbrev pub entry_output : SumCase → List Float
 entry_output c = map (λ v. unwritten) c.output
 
 pub record Sums (c : SumCase) : Type 0 where
-  pub answer : answer_of c.layer.op c.layer c.input c.kernel (length (entry_output c)) ≡ numbered 0
+  pub answer : answer_of c.layer.op c.layer c.input c.kernel (length (entry_output c)) ≡ done
   pub contents : contents_of c.layer.op Running (places_of c.layer.op) c.layer c.input c.kernel (entry_output c) ≡ c.output
 
 -- ---- the whole-number account of output 0 of a call (demand 3)

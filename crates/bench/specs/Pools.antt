@@ -1,13 +1,14 @@
 -- Document 01, "Bench cases": the cases (B) of max pooling, as calls over one plane.
-use Rattle.std.specs.Prelude.{false, ◌≡◌, List, [], ◌∷◌, map, ℤ, pos, negsuc, Float}
+use Rattle.std.specs.Prelude.{false, ◌≡◌, List, [], ◌∷◌, map, ℤ, pos, negsuc, Float, Result, Err, ⊤}
 use Rattle.std.specs.Float.{fin, binary32}
 use Rattle.std.specs.Float.Ieee.{of_int}
 use Rattle.layer.specs.declared.Op.TheVariants.{MaxPool}
 use Rattle.layer.specs.declared.AutoPad.TheVariants.{Explicit, SameUpper, Valid}
 use Rattle.layer.specs.declared.Rounding.TheVariants.{Floor, Ceil, CeilTorch}
 use Rattle.layer.specs.declared.Layer.{Layer}
-use Rattle.layer.specs.declared.Answer.{Answer}
-use Rattle.layer.specs.Answers.{numbered}
+use Rattle.layer.specs.declared.Refusal.{Refusal}
+use Rattle.layer.specs.declared.Refusal.TheVariants.{EmptyWindow}
+use Rattle.layer.specs.Refusals.{done}
 use Rattle.pooling.specs.Call.{max_pool_answer, max_pool_values, max_pool_indices}
 use Rattle.bench.specs.Sizes.{along, one_axis, one_axis_at14, two_axes}
 
@@ -23,7 +24,7 @@ unwritten_index = negsuc 6
 pub record PoolCase : Type 0 where
   pub layer : Layer
   pub input : List Float
-  pub answer : Answer
+  pub answer : Result ⊤ Refusal
   pub values : List Float
   pub indices : List ℤ
 
@@ -48,7 +49,7 @@ example2 =
     record {
       layer = one_axis MaxPool Valid Floor (along 7 3 1 1 0);
       input = whole (negsuc 0 ∷ pos 2 ∷ pos 3 ∷ pos 5 ∷ negsuc 6 ∷ pos 9 ∷ pos 1 ∷ []);
-      answer = numbered 0;
+      answer = done;
       values = whole (pos 3 ∷ pos 5 ∷ pos 5 ∷ pos 9 ∷ pos 9 ∷ []);
       indices = pos 2 ∷ pos 3 ∷ pos 3 ∷ pos 5 ∷ pos 5 ∷ [];
     }
@@ -60,7 +61,7 @@ example5 =
     record {
       layer = two_axes MaxPool Valid Ceil (along 3 2 2 1 0) (along 3 2 2 1 0);
       input = whole (negsuc 0 ∷ pos 2 ∷ pos 3 ∷ pos 4 ∷ pos 5 ∷ negsuc 5 ∷ negsuc 6 ∷ pos 8 ∷ pos 9 ∷ []);
-      answer = numbered 0;
+      answer = done;
       values = whole (pos 5 ∷ pos 3 ∷ pos 8 ∷ pos 9 ∷ []);
       indices = pos 4 ∷ pos 2 ∷ pos 7 ∷ pos 8 ∷ [];
     }
@@ -71,7 +72,7 @@ second_empty =
     record {
       layer = one_axis MaxPool Explicit Ceil (along 2 1 3 1 0);
       input = whole (pos 4 ∷ pos 5 ∷ []);
-      answer = numbered 7;
+      answer = Err EmptyWindow;
       values = unwritten ∷ unwritten ∷ [];
       indices = unwritten_index ∷ unwritten_index ∷ [];
     }
@@ -82,7 +83,7 @@ without_second =
     record {
       layer = one_axis_at14 Explicit CeilTorch (along 2 1 3 1 0);
       input = whole (pos 4 ∷ pos 5 ∷ []);
-      answer = numbered 0;
+      answer = done;
       values = whole (pos 4 ∷ []);
       indices = pos 0 ∷ [];
     }
@@ -93,7 +94,7 @@ both_outside =
     record {
       layer = one_axis MaxPool SameUpper Floor (along 3 2 1 16 0);
       input = whole (pos 4 ∷ pos 5 ∷ pos 6 ∷ []);
-      answer = numbered 7;
+      answer = Err EmptyWindow;
       values = unwritten ∷ unwritten ∷ unwritten ∷ [];
       indices = unwritten_index ∷ unwritten_index ∷ unwritten_index ∷ [];
     }

@@ -1,5 +1,5 @@
 -- Document 01, "Bench cases": the cases (B) of sizes and of number 7, as layers with one axis.
-use Rattle.std.specs.Prelude.{ℕ, List, [], ◌∷◌, pos}
+use Rattle.std.specs.Prelude.{ℕ, List, [], ◌∷◌, pos, Err, Ok, Result}
 use Rattle.layer.specs.declared.Op.{Op}
 use Rattle.layer.specs.declared.Op.TheVariants.{Convolution, Transposed, MaxPool}
 use Rattle.layer.specs.declared.AutoPad.{AutoPad}
@@ -9,9 +9,10 @@ use Rattle.layer.specs.declared.Rounding.TheVariants.{Floor, Ceil, CeilTorch}
 use Rattle.layer.specs.declared.Axis.{Axis}
 use Rattle.layer.specs.declared.Layer.{Layer}
 use Rattle.layer.specs.Defaults.{default_axis, version_default}
-use Rattle.shape.specs.declared.Judged.{Judged}
-use Rattle.shape.specs.declared.Judged.TheVariants.{Accepted, Refused}
 use Rattle.shape.specs.Judge.{judged}
+use Rattle.layer.specs.declared.Refusal.{Refusal}
+use Rattle.layer.specs.Refusals.{refusal_number}
+use Rattle.shape.specs.declared.Shape.{Shape}
 
 -- one axis: input, kernel, stride, dilation, and the pad on both sides
 abbrev pub along : ℕ → ℕ → ℕ → ℕ → ℕ → Axis
@@ -48,9 +49,9 @@ abbrev pub two_axes : Op → AutoPad → Rounding → Axis → Axis → Layer
 two_axes op m r y x = one_plane version_default 2 op m r y x
 
 -- a layer's number and its output size along X, 0 where it is refused
-abbrev pub number_and_size : Judged → ℕ × ℕ
-number_and_size (Accepted s) = (0, s.x.out)
-number_and_size (Refused n) = (n, 0)
+abbrev pub number_and_size : Result Shape Refusal → ℕ × ℕ
+number_and_size (Ok s) = (0, s.x.out)
+number_and_size (Err e) = (refusal_number e, 0)
 
 pub record SizeCase : Type 0 where
   pub layer : Layer

@@ -1,4 +1,5 @@
 -- Max pooling of one image alone: the windows are those of the batch, moved, so the values are the same; an index is the same, or higher by the images before it.
+use Rattle.std.specs.Prelude.{IsOk, Ok}
 use mathlib.Core.Path.{◌≡◌, refl, sym, ap, ◌∙◌}
 use mathlib.Core.List.{List, [], ◌∷◌, ◌++◌, map, map-append}
 use Prim.Native.Nat.{ℕ, zero, suc, ◌+◌, ◌*◌, ◌/◌, ◌%◌, ◌<◌}
@@ -13,7 +14,7 @@ use Rattle.layer.specs.declared.Layer.{Layer}
 use Rattle.layer.specs.Limits.{rank}
 use Rattle.shape.specs.declared.Shape.{Shape}
 use Rattle.shape.specs.Counts.{shape_of}
-use Rattle.shape.specs.Judge.{number_of}
+use Rattle.layer.specs.Refusals.{number_of}
 use Rattle.shape.specs.Volumes.{input_rows}
 use Rattle.shape.proofs.Limits.{Axes, limited}
 use Rattle.shape.proofs.Accepted.{allowed}
@@ -21,7 +22,6 @@ use Rattle.tensor.specs.declared.Window.{Window}
 use Rattle.tensor.specs.declared.Window.TheVariants.{Empty, Best}
 use Rattle.tensor.specs.Table.{tabulate}
 use Rattle.tensor.proofs.Table.{tabulate_same}
-use Rattle.call.specs.declared.Verdict.TheVariants.{Run}
 use Rattle.call.proofs.Outcome.{run_answer, run_leaves}
 use Rattle.pooling.specs.Windows.{window_of}
 use Rattle.pooling.specs.Call.{value_of, index_of, pooled_value, pooled_index, call_verdict, max_pool_answer, max_pool_values, max_pool_indices}
@@ -54,7 +54,7 @@ index_moved : (more a b : ℕ) → ((p : ℕ) → (more + p) % a ≡ p % b) → 
 index_moved more a b h Empty = refl
 index_moved more a b h (Best v p) = ap pos (h p)
 
-module _ (l : Layer) (input values own-values : List Float) (indices own-indices : List ℤ) (n : ℕ) (h : n < l.n) (z : (max_pool_answer l input values indices).number ≡ 0) (kv : length own-values ≡ length values / l.n) (ki : length own-indices ≡ length indices / l.n) where
+module _ (l : Layer) (input values own-values : List Float) (indices own-indices : List ℤ) (n : ℕ) (h : n < l.n) (z : IsOk (max_pool_answer l input values indices)) (kv : length own-values ≡ length values / l.n) (ki : length own-indices ≡ length indices / l.n) where
   abbrev s : Shape
   s = shape_of MaxPool l
 
@@ -67,7 +67,7 @@ module _ (l : Layer) (input values own-values : List Float) (indices own-indices
   abbrev own : Batch MaxPool l input
   own = facts l input values indices n h z
 
-  run_alone : call_verdict (one_image l) image own-values own-indices ≡ Run t
+  run_alone : call_verdict (one_image l) image own-values own-indices ≡ Ok t
   run_alone =
       let f = fits l input values indices n h z in
       own_run MaxPool l input own n h _ _

@@ -1,4 +1,5 @@
 -- The layer with one image: where a layer passes checks 1 to 7 it passes them too, since N is in no test but its own limit and the counts, which are smaller with it.
+use Rattle.std.specs.Prelude.{Ok}
 use Prim.Native.Nat.{ℕ, ◌*◌, ◌≤◌}
 use native.Mathlib.Nat.{one-mul, mul_assoc, mul_comm, le-mul_of_pos_right}
 use native.Mathlib.Omega.{arith}
@@ -12,12 +13,12 @@ use Rattle.layer.specs.Limits.{images_ok, channels_ok, taps_ok, elements_ok}
 use Rattle.layer.specs.Axes.{axes_in, uses_y, uses_z}
 use Rattle.layer.proofs.Tests.{and_both, and_of}
 use Rattle.sizes.specs.Sizing.{axis_dimensions_ok}
-use Rattle.shape.specs.declared.Judged.TheVariants.{Accepted}
 use Rattle.shape.specs.Counts.{input_count, kernel_count, tap_count, output_channels, span_on, shape_of}
 use Rattle.shape.specs.Volumes.{kernel_rows, out_rows, on_rows, on_plane}
 use Rattle.shape.specs.Windows.{window_empty, some_empty}
 use Rattle.shape.specs.Checks.{groups_within, axis_within, dimensions_ok, unused_ok, attributes_ok, counts_ok, fits_ok, output_ok, windows_ok}
-use Rattle.shape.specs.Judge.{judged, number_of}
+use Rattle.shape.specs.Judge.{judged}
+use Rattle.layer.specs.Refusals.{number_of}
 use Rattle.shape.specs.Facts.{Sound}
 use Rattle.shape.proofs.Accepted.{Allowed, allowed, allowed_accepted, sound}
 use Rattle.images.specs.Images.{one_image}
@@ -72,7 +73,7 @@ module _ (op : Op) (l : Layer) (a : Allowed op l) (s : Sound (shape_of op l)) wh
   windows_pass = a.windows
 
 -- an accepted layer is accepted with one image too
-pub layer_accepted : (op : Op) (l : Layer) → judged op l ≡ Accepted (shape_of op l) → judged op (one_image l) ≡ Accepted (shape_of op (one_image l))
+pub layer_accepted : (op : Op) (l : Layer) → judged op l ≡ Ok (shape_of op l) → judged op (one_image l) ≡ Ok (shape_of op (one_image l))
 layer_accepted op l e =
     let a = allowed op l (ap number_of e) in
     let s = sound op l (shape_of op l) e in

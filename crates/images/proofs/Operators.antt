@@ -1,4 +1,5 @@
 -- The laws for each operator, and two calls in document 01's indices: where the inputs have the same elements (n, c, z, y, x), so have the outputs and indices.
+use Rattle.std.specs.Prelude.{IsOk, Ok, Result}
 use mathlib.Core.Path.{◌≡◌, refl, sym, ap, ◌∙◌}
 use mathlib.Core.Bool.{false}
 use mathlib.Core.List.{List}
@@ -16,8 +17,6 @@ use Rattle.tensor.proofs.Table.{tabulate_length}
 use Rattle.sums.specs.declared.Profile.{Profile}
 use Rattle.sums.specs.declared.Profile.TheVariants.{Running}
 use Rattle.sums.specs.Taps.{Place, output_of}
-use Rattle.call.specs.declared.Verdict.{Verdict}
-use Rattle.call.specs.declared.Verdict.TheVariants.{Run}
 use Rattle.call.specs.Call.{leaves, answer_of, contents_of}
 use Rattle.call.proofs.Checked.{zero_run}
 use Rattle.call.proofs.Outcome.{run_leaves, fitting}
@@ -32,6 +31,7 @@ use Rattle.images.specs.Calls.{SameImage, SameOutputs, SamePooling, OutputsAlone
 use Rattle.images.proofs.Parts.{same_elements}
 use Rattle.images.proofs.Sums.{same_outputs, image_alone}
 use Rattle.images.proofs.Places.{convolution_stays, transposed_stays}
+use Rattle.layer.specs.declared.Refusal.{Refusal}
 
 -- ---- two calls; max pooling has `same_pooling`
 pub same_convolution : (profile : Profile) → SameOutputs Convolution profile place_of
@@ -61,11 +61,11 @@ SameIn none op l n a b =
 input_image : (l : Layer) (n : ℕ) (a b : List Float) → n < l.n → length a ≡ input_count l → length b ≡ input_count l → SameInputs l n a b → SameImage l n a b
 input_image l n a b h ea eb e = (same_elements l.n l.c l.z.input l.y.input l.x.input n h a b nan ea eb).0 e
 
-leaves_length : {A : Type 0} (v : Verdict) (element : Shape → ℕ → A) (before : List A) (s : Shape) → v ≡ Run s → length (leaves v element before) ≡ s.outputs
+leaves_length : {A : Type 0} (v : Result Shape Refusal) (element : Shape → ℕ → A) (before : List A) (s : Shape) → v ≡ Ok s → length (leaves v element before) ≡ s.outputs
 leaves_length v element before s e = ap length (sym (run_leaves v element before s e)) ∙ tabulate_length (element s) s.outputs
 
-left_elements : {A : Type 0} (none : A) (op : Op) (l : Layer) (n : ℕ) (va vb : Verdict) (fa fb : Shape → ℕ → A) (before-a before-b : List A) → n < l.n
-    → va ≡ Run (shape_of op l) → vb ≡ Run (shape_of op l) → image_of l.n n (leaves va fa before-a) ≡ image_of l.n n (leaves vb fb before-b)
+left_elements : {A : Type 0} (none : A) (op : Op) (l : Layer) (n : ℕ) (va vb : Result Shape Refusal) (fa fb : Shape → ℕ → A) (before-a before-b : List A) → n < l.n
+    → va ≡ Ok (shape_of op l) → vb ≡ Ok (shape_of op l) → image_of l.n n (leaves va fa before-a) ≡ image_of l.n n (leaves vb fb before-b)
     → SameIn none op l n (leaves va fa before-a) (leaves vb fb before-b)
 left_elements none op l n va vb fa fb before-a before-b h ra rb e =
     let s = shape_of op l in
@@ -75,8 +75,8 @@ left_elements none op l n va vb fa fb before-a before-b h ra rb e =
 -- a convolution of either kind, by its law
 pub output_elements : (op : Op) → is_pool op ≡ false → (profile : Profile) (place : Shape → ℕ → ℕ → Place) → SameOutputs op profile place
     → (l : Layer) (a b kernel before-a before-b : List Float) (n : ℕ) → n < l.n
-    → (answer_of op l a kernel (length before-a)).number ≡ 0
-    → (answer_of op l b kernel (length before-b)).number ≡ 0
+    → IsOk (answer_of op l a kernel (length before-a))
+    → IsOk (answer_of op l b kernel (length before-b))
     → SameInputs l n a b
     → SameIn nan op l n (contents_of op profile place l a kernel before-a) (contents_of op profile place l b kernel before-b)
 output_elements op pool profile place same l a b kernel before-a before-b n h za zb e =
@@ -90,8 +90,8 @@ output_elements op pool profile place same l a b kernel before-a before-b n h za
 
 -- max pooling, by its law
 pub pooled_elements : SamePooling → (l : Layer) (a b values-a values-b : List Float) (indices-a indices-b : List ℤ) (n : ℕ) → n < l.n
-    → (max_pool_answer l a values-a indices-a).number ≡ 0
-    → (max_pool_answer l b values-b indices-b).number ≡ 0
+    → IsOk (max_pool_answer l a values-a indices-a)
+    → IsOk (max_pool_answer l b values-b indices-b)
     → SameInputs l n a b
     → SameIn nan MaxPool l n (max_pool_values l a values-a indices-a) (max_pool_values l b values-b indices-b)
     × SameIn (pos 0) MaxPool l n (max_pool_indices l a values-a indices-a) (max_pool_indices l b values-b indices-b)

@@ -1,4 +1,5 @@
 -- The places of both convolutions stay in the output's image: an output's planes of the input move by whole images, its weights and positions do not move.
+use Rattle.std.specs.Prelude.{None, Option, Some}
 use mathlib.Core.Path.{◌≡◌, refl, ap, ◌∙◌}
 use Prim.Native.Nat.{ℕ, ◌+◌, ◌*◌, ◌/◌, ◌%◌, ◌≤◌}
 use native.Mathlib.Nat.{mul-pos, add_assoc}
@@ -6,8 +7,6 @@ use Rattle.layer.specs.declared.Op.{Op}
 use Rattle.layer.specs.declared.Op.TheVariants.{Convolution, Transposed}
 use Rattle.layer.specs.declared.Layer.{Layer}
 use Rattle.sizes.specs.declared.Span.{Span}
-use Rattle.taps.specs.declared.Tap.{Tap}
-use Rattle.taps.specs.declared.Tap.TheVariants.{Outside, At}
 use Rattle.taps.specs.Joins.{forward, backward}
 use Rattle.shape.specs.declared.Shape.{Shape}
 use Rattle.shape.specs.Counts.{shape_of}
@@ -48,15 +47,15 @@ module _ (op : Op) (l : Layer) (h : Grouped (shape_of op l)) (n q u : ℕ) where
   channel_same = image_channel n s.channels (out_volume s) q (volume_1 s h.sound)
 
   -- where the tap lies in its plane
-  lies_same : (f : Span → ℕ → ℕ → Tap) → on_plane f s (j % out_volume s) (u % kernel_volume s) ≡ on_plane f t (q % out_volume t) (u % kernel_volume t)
+  lies_same : (f : Span → ℕ → ℕ → Option ℕ) → on_plane f s (j % out_volume s) (u % kernel_volume s) ≡ on_plane f t (q % out_volume t) (u % kernel_volume t)
   unfolding out_rows kernel_rows on_rows on_plane
   lies_same f = ap (λ (p : ℕ). on_plane f s p (u % kernel_volume s)) (image_position n s.channels (out_volume s) q (volume_1 s h.sound))
 
 -- ---- a tap by where it lies, `f` being `placed` or `reached`: inside, its place is counted from where its plane begins; outside, it has none
-module _ (f : ℕ → ℕ → Tap → Place) (inside : (start weight p : ℕ) → f start weight (At p) ≡ at (start + p) weight) (outside : (more a b weight : ℕ) → f a weight Outside ≡ moved more (f b weight Outside)) where
-  tap_moved : (more a b v w : ℕ) (y z : Tap) → a ≡ more + b → v ≡ w → y ≡ z → f a v y ≡ moved more (f b w z)
-  tap_moved more a b v w y (At p) e g k = rw (e, g, k, inside (more + b) w p, inside b w p, add_assoc more b p)
-  tap_moved more a b v w y Outside e g k = rw (g, k) (outside more a b w)
+module _ (f : ℕ → ℕ → Option ℕ → Place) (inside : (start weight p : ℕ) → f start weight (Some p) ≡ at (start + p) weight) (outside : (more a b weight : ℕ) → f a weight None ≡ moved more (f b weight None)) where
+  tap_moved : (more a b v w : ℕ) (y z : Option ℕ) → a ≡ more + b → v ≡ w → y ≡ z → f a v y ≡ moved more (f b w z)
+  tap_moved more a b v w y (Some p) e g k = rw (e, g, k, inside (more + b) w p, inside b w p, add_assoc more b p)
+  tap_moved more a b v w y None e g k = rw (g, k) (outside more a b w)
 
 pub convolution_stays : Stays Convolution place_of
 unfolding placed place_of

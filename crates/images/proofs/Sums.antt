@@ -1,5 +1,6 @@
 -- The sums of an image, for any place function whose places stay in the output's image: those of image n are the places of the layer with one image, moved by the
 -- images before it. Each tap of an output of image n has then the factors that it has in the call on image n alone.
+use Rattle.std.specs.Prelude.{IsOk, Ok}
 use mathlib.Core.Path.{◌≡◌, refl, sym, ap, ◌∙◌, subst}
 use mathlib.Core.Bool.{Bool, false, cond}
 use mathlib.Core.List.{List}
@@ -18,7 +19,6 @@ use Rattle.tensor.proofs.Table.{tabulate_same}
 use Rattle.sums.specs.declared.Profile.{Profile}
 use Rattle.sums.specs.Taps.{Place, missing, outside, at, InRange, tap_at, inside_only, output_of}
 use Rattle.sums.proofs.Outputs.{output_same}
-use Rattle.call.specs.declared.Verdict.TheVariants.{Run}
 use Rattle.call.specs.Checks.{sum_verdict}
 use Rattle.call.specs.Call.{answer_of, contents_of}
 use Rattle.call.specs.Fitting.{Fitting}
@@ -58,7 +58,7 @@ inside_moved images size n input kernel weights (outside w) e h r = tap_moved im
 inside_moved images size n input kernel weights (at a w) e h r = tap_moved images size n input kernel weights (at a w) e h r
 
 -- ---- an accepted call
-module _ (op : Op) (pool : is_pool op ≡ false) (profile : Profile) (place : Shape → ℕ → ℕ → Place) (ranges : Ranges place) (stays : Stays op place) (l : Layer) (input kernel before : List Float) (n : ℕ) (h : n < l.n) (z : (answer_of op l input kernel (length before)).number ≡ 0) where
+module _ (op : Op) (pool : is_pool op ≡ false) (profile : Profile) (place : Shape → ℕ → ℕ → Place) (ranges : Ranges place) (stays : Stays op place) (l : Layer) (input kernel before : List Float) (n : ℕ) (h : n < l.n) (z : IsOk (answer_of op l input kernel (length before))) where
   abbrev s : Shape
   s = shape_of op l
 
@@ -68,7 +68,7 @@ module _ (op : Op) (pool : is_pool op ≡ false) (profile : Profile) (place : Sh
   abbrev image : List Float
   image = image_of l.n n input
 
-  run : sum_verdict op l input kernel (length before) ≡ Run s
+  run : sum_verdict op l input kernel (length before) ≡ Ok s
   run = zero_run op l _ _ z
 
   fits : Fitting s input kernel × (length before ≡ s.outputs)
@@ -99,7 +99,7 @@ module _ (op : Op) (pool : is_pool op ≡ false) (profile : Profile) (place : Sh
 
   -- the call on the image alone
   module _ (own : List Float) (k : length own ≡ length before / l.n) where
-    run_alone : sum_verdict op (one_image l) image kernel (length own) ≡ Run t
+    run_alone : sum_verdict op (one_image l) image kernel (length own) ≡ Ok t
     run_alone =
         own_run op l input facts n h _ _
         (lengths_three _ _ _ (own_input op l input facts n h) (fits.0.kernel_length ∙ sym (ap (λ (b : Bool). cond b t.outputs t.weights) pool)) (own_output op l input facts n h own before fits.1 k))

@@ -1,4 +1,5 @@
 -- The windows of an image: those of image n are the windows of the layer with one image, moved by the images before it, so that each holds the same best element.
+use Rattle.std.specs.Prelude.{IsOk, None, Ok, Option, Some}
 use mathlib.Core.Path.{◌≡◌, refl, sym, ap, ◌∙◌, subst}
 use mathlib.Core.Bool.{Bool, true, false, cond}
 use mathlib.Core.List.{List, [], ◌∷◌, ◌++◌, map, map-append}
@@ -9,8 +10,6 @@ use lib.ListN.{length}
 use lib.Ieee.{Float, nan, lt}
 use Rattle.layer.specs.declared.Op.TheVariants.{MaxPool}
 use Rattle.layer.specs.declared.Layer.{Layer}
-use Rattle.taps.specs.declared.Tap.{Tap}
-use Rattle.taps.specs.declared.Tap.TheVariants.{Outside, At}
 use Rattle.taps.specs.Joins.{forward}
 use Rattle.shape.specs.declared.Shape.{Shape}
 use Rattle.shape.specs.Counts.{shape_of}
@@ -21,7 +20,6 @@ use Rattle.tensor.specs.declared.Window.TheVariants.{Empty, Best}
 use Rattle.tensor.specs.Table.{read, tabulate}
 use Rattle.tensor.specs.Window.{better_of, best_of, All}
 use Rattle.tensor.proofs.Table.{tabulate_same}
-use Rattle.call.specs.declared.Verdict.TheVariants.{Run}
 use Rattle.call.specs.Call.{leaves}
 use Rattle.call.proofs.Checked.{zero_run}
 use Rattle.call.proofs.Outcome.{run_leaves}
@@ -42,15 +40,15 @@ moved_window more Empty = Empty
 moved_window more (Best v p) = Best v (more + p)
 
 -- ---- its places
-over_moved : (tap : ℕ → Tap) (a b k : ℕ) → over_taps tap (λ q. (a + b + q) ∷ []) k ≡ map (λ p. a + p) (over_taps tap (λ q. (b + q) ∷ []) k)
+over_moved : (tap : ℕ → Option ℕ) (a b k : ℕ) → over_taps tap (λ q. (a + b + q) ∷ []) k ≡ map (λ p. a + p) (over_taps tap (λ q. (b + q) ∷ []) k)
 unfolding over_taps
 over_moved tap a b zero = refl
 over_moved tap a b (suc k) =
     (λ d. over_moved tap a b k d ++ one (tap k) d) ∙ sym (map-append (λ p. a + p) (over_taps tap (λ q. (b + q) ∷ []) k) (at_tap (λ q. (b + q) ∷ []) (tap k)))
   where
-    one : (t : Tap) → at_tap (λ q. (a + b + q) ∷ []) t ≡ map (λ p. a + p) (at_tap (λ q. (b + q) ∷ []) t)
-    one Outside = refl
-    one (At q) = ap (λ (p : ℕ). p ∷ []) (add_assoc a b q)
+    one : (t : Option ℕ) → at_tap (λ q. (a + b + q) ∷ []) t ≡ map (λ p. a + p) (at_tap (λ q. (b + q) ∷ []) t)
+    one None = refl
+    one (Some q) = ap (λ (p : ℕ). p ∷ []) (add_assoc a b q)
 
 -- ---- its best element
 module _ (images size n : ℕ) (xs : List Float) (e : length xs ≡ images * size) (h : n < images) where
@@ -76,7 +74,7 @@ module _ (images size n : ℕ) (xs : List Float) (e : length xs ≡ images * siz
       ap (best_of xs (map (λ p. n * size + p) ps)) (better_moved w p a.0) ∙ best_moved ps a.1 (better_of w (read (image_of images n xs) p) p)
 
 -- ---- an accepted call
-module _ (l : Layer) (input values : List Float) (indices : List ℤ) (n : ℕ) (h : n < l.n) (z : (max_pool_answer l input values indices).number ≡ 0) where
+module _ (l : Layer) (input values : List Float) (indices : List ℤ) (n : ℕ) (h : n < l.n) (z : IsOk (max_pool_answer l input values indices)) where
   abbrev s : Shape
   s = shape_of MaxPool l
 
@@ -89,7 +87,7 @@ module _ (l : Layer) (input values : List Float) (indices : List ℤ) (n : ℕ) 
   abbrev more : ℕ
   more = n * input_size s
 
-  run : call_verdict l input values indices ≡ Run s
+  run : call_verdict l input values indices ≡ Ok s
   run = zero_run MaxPool l _ _ z
 
   pub fits : PoolFitting s input (length values) (length indices)

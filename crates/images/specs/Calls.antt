@@ -1,9 +1,9 @@
 -- What two calls have in common that share an image, and what a call has in common with the call on one of its images alone. A call is accepted where its number
 -- is 0. "Number 9 and what it tells may depend on every image, so nothing is said where either call is refused"
-use Rattle.std.specs.Prelude.{ℕ, suc, ◌+◌, ◌*◌, ◌/◌, ◌≤◌, ◌<◌, ◌≡◌, List, map, ℤ, pos, negsuc, length, Float}
+use Rattle.std.specs.Prelude.{IsOk, ℕ, suc, ◌+◌, ◌*◌, ◌/◌, ◌≤◌, ◌<◌, ◌≡◌, List, map, ℤ, pos, negsuc, length, Float}
 use Rattle.layer.specs.declared.Op.{Op}
 use Rattle.layer.specs.declared.Layer.{Layer}
-use Rattle.layer.specs.Answers.{numbered}
+use Rattle.layer.specs.Refusals.{done}
 use Rattle.layer.specs.Limits.{rank}
 use Rattle.shape.specs.declared.Shape.{Shape}
 use Rattle.sums.specs.declared.Profile.{Profile}
@@ -23,8 +23,8 @@ SameImage l n a b = image_of l.n n a ≡ image_of l.n n b
 abbrev pub SameOutputs : Op → Profile → (Shape → ℕ → ℕ → Place) → Type 0
 SameOutputs op profile place =
     (l : Layer) (a b kernel before-a before-b : List Float) (n : ℕ) → n < l.n
-    → (answer_of op l a kernel (length before-a)).number ≡ 0
-    → (answer_of op l b kernel (length before-b)).number ≡ 0
+    → IsOk (answer_of op l a kernel (length before-a))
+    → IsOk (answer_of op l b kernel (length before-b))
     → SameImage l n a b
     → image_of l.n n (contents_of op profile place l a kernel before-a) ≡ image_of l.n n (contents_of op profile place l b kernel before-b)
 
@@ -36,8 +36,8 @@ pub record SamePooled (l : Layer) (a b values-a values-b : List Float) (indices-
 abbrev pub SamePooling : Type 0
 SamePooling =
     (l : Layer) (a b values-a values-b : List Float) (indices-a indices-b : List ℤ) (n : ℕ) → n < l.n
-    → (max_pool_answer l a values-a indices-a).number ≡ 0
-    → (max_pool_answer l b values-b indices-b).number ≡ 0
+    → IsOk (max_pool_answer l a values-a indices-a)
+    → IsOk (max_pool_answer l b values-b indices-b)
     → SameImage l n a b
     → SamePooled l a b values-a values-b indices-a indices-b n
 
@@ -45,13 +45,13 @@ SamePooling =
 
 -- "These outputs and indices are also those of the call on image n alone, the same layer with N 1, which is accepted too": a convolution of either kind
 pub record SummedAlone (op : Op) (profile : Profile) (place : Shape → ℕ → ℕ → Place) (l : Layer) (input kernel before own : List Float) (n : ℕ) : Type 0 where
-  pub answer : answer_of op (one_image l) (image_of l.n n input) kernel (length own) ≡ numbered 0
+  pub answer : answer_of op (one_image l) (image_of l.n n input) kernel (length own) ≡ done
   pub outputs : image_of l.n n (contents_of op profile place l input kernel before) ≡ contents_of op profile place (one_image l) (image_of l.n n input) kernel own
 
 abbrev pub OutputsAlone : Op → Profile → (Shape → ℕ → ℕ → Place) → Type 0
 OutputsAlone op profile place =
     (l : Layer) (input kernel before own : List Float) (n : ℕ) → n < l.n
-    → (answer_of op l input kernel (length before)).number ≡ 0
+    → IsOk (answer_of op l input kernel (length before))
     → length own ≡ length before / l.n
     → SummedAlone op profile place l input kernel before own n
 
@@ -72,7 +72,7 @@ plus more (negsuc m) = negsuc m
 
 -- max pooling: "but an index with axis 0 or -R, and no other, is n·C·Z·Y·X more than there"
 pub record PooledAlone (l : Layer) (input values own-values : List Float) (indices own-indices : List ℤ) (n : ℕ) : Type 0 where
-  pub answer : max_pool_answer (one_image l) (image_of l.n n input) own-values own-indices ≡ numbered 0
+  pub answer : max_pool_answer (one_image l) (image_of l.n n input) own-values own-indices ≡ done
   pub values_same : image_of l.n n (max_pool_values l input values indices) ≡ max_pool_values (one_image l) (image_of l.n n input) own-values own-indices
   pub indices_same : LaterAxis (rank l.axes) l.axis
       → image_of l.n n (max_pool_indices l input values indices) ≡ max_pool_indices (one_image l) (image_of l.n n input) own-values own-indices
@@ -83,7 +83,7 @@ pub record PooledAlone (l : Layer) (input values own-values : List Float) (indic
 abbrev pub PoolingAlone : Type 0
 PoolingAlone =
     (l : Layer) (input values own-values : List Float) (indices own-indices : List ℤ) (n : ℕ) → n < l.n
-    → (max_pool_answer l input values indices).number ≡ 0
+    → IsOk (max_pool_answer l input values indices)
     → length own-values ≡ length values / l.n
     → length own-indices ≡ length indices / l.n
     → PooledAlone l input values own-values indices own-indices n

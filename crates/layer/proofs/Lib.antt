@@ -1,3 +1,4 @@
+pub mod Refusals
 pub mod Tests
 pub mod Places
 pub mod Signed

@@ -1,5 +1,5 @@
 -- The numbers of refusals.
-use Rattle.std.specs.Prelude.{ℕ, Result, Ok, Err}
+use Rattle.std.specs.Prelude.{ℕ, Result, Ok, Err, ⊤}
 use Rattle.layer.specs.declared.Refusal.{Refusal}
 use Rattle.layer.specs.declared.Refusal.TheVariants.{Dimension, Attribute, Groups, ElementCount, Size, OutputCount, EmptyWindow, SliceLength, BadElement}
 use Rattle.layer.specs.declared.SheetError.{SheetError}
@@ -39,3 +39,24 @@ sheet_number Room = 24
 abbrev pub number_of : {A : Type 0} → Result A Refusal → ℕ
 number_of (Ok a) = 0
 number_of (Err e) = refusal_number e
+
+-- number 0: "done; every output element written"
+abbrev pub done : Result ⊤ Refusal
+done = Ok tt
+
+-- the tensor, the place and the number of bad elements that a refusal tells: "A tensor, place, number of bad elements or line that a number doesn't use is 0"
+abbrev pub refusal_tells : Refusal → ℕ × ℕ × ℕ
+refusal_tells Dimension = (0, 0, 0)
+refusal_tells Attribute = (0, 0, 0)
+refusal_tells Groups = (0, 0, 0)
+refusal_tells ElementCount = (0, 0, 0)
+refusal_tells Size = (0, 0, 0)
+refusal_tells OutputCount = (0, 0, 0)
+refusal_tells EmptyWindow = (0, 0, 0)
+refusal_tells SliceLength = (0, 0, 0)
+refusal_tells (BadElement tensor place bad) = (tensor, place, bad)
+
+-- and what a call tells
+abbrev pub tells : {A : Type 0} → Result A Refusal → ℕ × ℕ × ℕ
+tells (Ok a) = (0, 0, 0)
+tells (Err e) = refusal_tells e

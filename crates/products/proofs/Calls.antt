@@ -15,7 +15,8 @@ use Rattle.sums.specs.Taps.{output_of}
 use Rattle.call.specs.Checks.{sum_verdict}
 use Rattle.call.specs.Call.{answer_of, contents_of, WholeOutputs, FiniteOutputs}
 use Rattle.call.specs.Fitting.{Fitting}
-use Rattle.call.proofs.Outcome.{done, fitting, refused_call, filled_call}
+use Rattle.call.proofs.Outcome.{fitting, refused_call, filled_call}
+use Rattle.layer.specs.Refusals.{done}
 use Rattle.places.specs.Places.{place_of}
 use Rattle.places.proofs.Places.{in_range_lem}
 use Rattle.products.specs.Products.{products_in, products_of}

@@ -1,5 +1,6 @@
 -- Convolution in document 01's words: the places of its taps, for output (n, group g, o, z, y, x) and tap (i, kz, ky, kx), each at its row-major number, and
 -- the sum over them by four nested loops; and the run of a halved sum.
+use Rattle.std.specs.Prelude.{Some}
 use mathlib.Core.Path.{◌≡◌, sym, ap, ◌∙◌}
 use mathlib.Core.List.{List}
 use Prim.Native.Nat.{ℕ, ◌+◌, ◌*◌, ◌/◌, ◌≤◌, ◌<◌}
@@ -8,7 +9,6 @@ use native.Mathlib.Omega.{arith}
 use borrow.Author.Tests.{eqb-true, eq-eqb}
 use lib.Ieee.{Float}
 use Rattle.sizes.specs.declared.Span.{Span}
-use Rattle.taps.specs.declared.Tap.TheVariants.{At}
 use Rattle.taps.specs.Joins.{joins, forward}
 use Rattle.taps.proofs.Joins.{forward_finds, finds_at, at_finds}
 use Rattle.shape.specs.declared.Shape.{Shape}
@@ -29,10 +29,10 @@ pub record LiesAt (s : Span) (p k q : ℕ) : Type 0 where
   pub inside : q < s.input
 
 -- the definition's tap is that row
-lies_at : (s : Span) (p k q : ℕ) → 1 ≤ s.stride → LiesAt s p k q → forward s p k ≡ At q
+lies_at : (s : Span) (p k q : ℕ) → 1 ≤ s.stride → LiesAt s p k q → forward s p k ≡ Some q
 lies_at s p k q l h = finds_at s.input (joins s p k) (forward s p k) q (forward_finds s p k) h.inside (eq-eqb _ _ (sym h.position))
 
-at_lies : (s : Span) (p k q : ℕ) → 1 ≤ s.stride → forward s p k ≡ At q → LiesAt s p k q
+at_lies : (s : Span) (p k q : ℕ) → 1 ≤ s.stride → forward s p k ≡ Some q → LiesAt s p k q
 at_lies s p k q l e =
     let u = at_finds s.input (joins s p k) (forward s p k) q (forward_finds s p k) e in
     record { position = sym (eqb-true (p * s.stride + k * s.dilation) (q + s.begin) u.1); inside = u.0 }

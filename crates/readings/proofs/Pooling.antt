@@ -1,5 +1,6 @@
 -- Max pooling in document 01's words: the places of a window by kz, ky and kx; every output of an accepted call is the first largest element of its window, and
 -- its index names that element.
+use Rattle.std.specs.Prelude.{IsOk, None, Ok, Option, Some}
 use Prim.Native.Nat.{ℕ, zero, suc, ◌+◌, ◌*◌, ◌/◌, ◌%◌, ◌<◌}
 use native.Mathlib.Nat.{mod-lt, mul-pos}
 use native.Mathlib.Omega.{arith}
@@ -14,8 +15,6 @@ use borrow.Author.Tests.{not-false}
 use Rattle.layer.specs.declared.Op.TheVariants.{MaxPool}
 use Rattle.layer.specs.declared.Layer.{Layer}
 use Rattle.layer.proofs.Places.{place_within}
-use Rattle.taps.specs.declared.Tap.{Tap}
-use Rattle.taps.specs.declared.Tap.TheVariants.{Outside, At}
 use Rattle.taps.specs.Taps.{any_below}
 use Rattle.taps.specs.Joins.{forward, is_at, Below}
 use Rattle.taps.proofs.Joins.{forward_below, below_at}
@@ -34,7 +33,6 @@ use Rattle.tensor.proofs.Table.{tabulate_get}
 use Rattle.tensor.proofs.Order.{NotNan, le_of_lt, le_refl}
 use Rattle.tensor.proofs.Element.{element_number, all_good}
 use Rattle.tensor.proofs.Largest.{all_map, all_append, first_largest}
-use Rattle.call.specs.declared.Verdict.TheVariants.{Run}
 use Rattle.call.proofs.Checked.{zero_run}
 use Rattle.call.proofs.Outcome.{run_leaves}
 use Rattle.call.proofs.Planes.{output_plane, inputs_are}
@@ -47,7 +45,7 @@ use Rattle.readings.proofs.Shared.{flat_plane, plane_number}
 
 -- ---- the window of output (n, c, z, y, x) of [N, C, OZ, OY, OX], "by kz, then ky, then kx": the depths of the input at which the taps kz lie, in each the rows
 -- at which the taps ky lie, and in each of these the columns at which the taps kx lie, in image n and channel c
-along : (tap : ℕ → Tap) (k : ℕ) (f g : ℕ → List ℕ) → ((q : ℕ) → f q ≡ g q) → over_taps tap f k ≡ over_taps tap g k
+along : (tap : ℕ → Option ℕ) (k : ℕ) (f g : ℕ → List ℕ) → ((q : ℕ) → f q ≡ g q) → over_taps tap f k ≡ over_taps tap g k
 along tap k f g e = ap (λ (h : ℕ → List ℕ). over_taps tap h k) (fun_ext e)
 
 pub reading_window : (s : Shape) (n : ℕ) {c z y x : ℕ} → c < s.c → z < s.z.out → y < s.y.out → x < s.x.out
@@ -65,16 +63,16 @@ reading_window s n {c} {z} {y} {x} hc hz hy hx =
     ap (λ (m : ℕ). m ∷ []) (flat_plane p s.z.input s.y.input s.x.input iz iy ix)))))
 
 -- ---- the places of a window
-module _ (tap : ℕ → Tap) (f : ℕ → List ℕ) where
+module _ (tap : ℕ → Option ℕ) (f : ℕ → List ℕ) where
   -- what holds of the places of each position holds of all
   over_all : (P : ℕ → Type 0) (size : ℕ) → ((k : ℕ) → Below size (tap k)) → ((c : ℕ) → c < size → All P (f c)) → (n : ℕ) → All P (over_taps tap f n)
   unfolding over_taps
   over_all P size below h zero = tt
   over_all P size below h (suc k) = all_append P (over_taps tap f k) (at_tap f (tap k)) (over_all P size below h k) (go (tap k) refl)
     where
-      go : (t : Tap) → tap k ≡ t → All P (at_tap f t)
-      go Outside e = tt
-      go (At c) e = h c (below_at size (tap k) c (below k) e)
+      go : (t : Option ℕ) → tap k ≡ t → All P (at_tap f t)
+      go None e = tt
+      go (Some c) e = h c (below_at size (tap k) c (below k) e)
 
   -- no place: no tap inside
   over_none : ((c : ℕ) → f c ≡ [] → ⊥) → (n : ℕ) → over_taps tap f n ≡ [] → any_below n (λ k. is_at (tap k)) ≡ false
@@ -86,9 +84,9 @@ module _ (tap : ℕ → Tap) (f : ℕ → List ℕ) where
       both_nil [] qs q = (refl, q)
       both_nil (a ∷ ps) qs q = absurd (false≢true cc)
 
-      outside : (t : Tap) → at_tap f t ≡ [] → is_at t ≡ false
-      outside Outside q = refl
-      outside (At c) q = absurd (h c q)
+      outside : (t : Option ℕ) → at_tap f t ≡ [] → is_at t ≡ false
+      outside None q = refl
+      outside (Some c) q = absurd (h c q)
 
 -- the places of a window lie in the input
 pub window_within : (s : Shape) → Pooled s → (j : ℕ) → j < s.outputs → All (λ q. q < s.inputs) (window_places s j)
@@ -129,7 +127,7 @@ pub record Held (input : List Float) (s : Shape) (j : ℕ) : Type 0 where
   pub first : FirstLargest input (window_places s j) (read input place) place
   pub within : place < length input
 
-module _ (layer : Layer) (input values : List Float) (indices : List ℤ) (s : Shape) (e : call_verdict layer input values indices ≡ Run s) (j : ℕ) (small : j < s.outputs) where
+module _ (layer : Layer) (input values : List Float) (indices : List ℤ) (s : Shape) (e : call_verdict layer input values indices ≡ Ok s) (j : ℕ) (small : j < s.outputs) where
   fits : PoolFitting s input (length values) (length indices)
   fits = pool_fitting layer input (length values) (length indices) s e
 
@@ -177,7 +175,7 @@ module _ (layer : Layer) (input values : List Float) (indices : List ℤ) (s : S
       }
 
 -- every output of a call whose number is 0
-pub best_of_windows : (layer : Layer) (input values : List Float) (indices : List ℤ) → (max_pool_answer layer input values indices).number ≡ 0
+pub best_of_windows : (layer : Layer) (input values : List Float) (indices : List ℤ) → IsOk (max_pool_answer layer input values indices)
     → (j : ℕ) → j < length values → BestOfWindow layer input values indices (shape_of MaxPool layer) j
 best_of_windows layer input values indices z j h =
     let e = zero_run MaxPool layer _ _ z in

@@ -1,5 +1,6 @@
 -- For both convolutions, in document 01's indices: the numbers of output (n, group g, o, z, y, x) and of tap (i, kz, ky, kx) taken apart, where the tap lies in
 -- its input plane, and the sum over all taps of an output by four nested loops.
+use Rattle.std.specs.Prelude.{None, Option, Some}
 use mathlib.Core.Path.{◌≡◌, refl, sym, ap, ◌∙◌}
 use mathlib.Core.List.{List}
 use Prim.Native.Nat.{ℕ, zero, suc, ◌+◌, ◌*◌, ◌/◌, ◌%◌, ◌≤◌, ◌<◌}
@@ -9,8 +10,6 @@ use native.Mathlib.Omega.{arith}
 use lib.Ieee.{Float}
 use Rattle.layer.proofs.Places.{place_within, place_div, place_mod}
 use Rattle.sizes.specs.declared.Span.{Span}
-use Rattle.taps.specs.declared.Tap.{Tap}
-use Rattle.taps.specs.declared.Tap.TheVariants.{Outside, At}
 use Rattle.taps.specs.Joins.{both}
 use Rattle.shape.specs.declared.Shape.{Shape}
 use Rattle.shape.specs.Facts.{Grouped}
@@ -67,10 +66,10 @@ plane_number z y x a {d} {r} {c} hd hr hc =
 -- ---- what the place of a tap is made of
 
 -- where a tap lies that lies at these places on the axes
-abbrev pub on_axes : Shape → Tap → Tap → Tap → Tap
+abbrev pub on_axes : Shape → Option ℕ → Option ℕ → Option ℕ → Option ℕ
 on_axes s z y x = both s.x.input (both s.y.input z y) x
 
-module _ (f : Span → ℕ → ℕ → Tap) (s : Shape) (n g o z y x i kz ky kx : ℕ) where
+module _ (f : Span → ℕ → ℕ → Option ℕ) (s : Shape) (n g o z y x i kz ky kx : ℕ) where
   abbrev j : ℕ
   j = output_number s n g o z y x
 
@@ -102,32 +101,32 @@ module _ (f : Span → ℕ → ℕ → Tap) (s : Shape) (n g o z y x i kz ky kx 
         lies =
             rw (a.position, b.position)
             (plane_at f s (z * s.y.out + y) (kz * s.y.kernel + ky) hx hkx
-            ∙ ap (λ (r : Tap). both s.x.input r (f s.x x kx)) (rows_at f s z kz hy hky));
+            ∙ ap (λ (r : Option ℕ). both s.x.input r (f s.x x kx)) (rows_at f s z kz hy hky));
       }
 
 -- ---- where a tap lies on the axes: `Lies` says what 01 says of one
-module _ (f : Span → ℕ → ℕ → Tap) (Lies : Span → ℕ → ℕ → ℕ → Type 0) (lies_at_lem : (a : Span) (p k q : ℕ) → 1 ≤ a.stride → Lies a p k q → f a p k ≡ At q) (at_lies : (a : Span) (p k q : ℕ) → 1 ≤ a.stride → f a p k ≡ At q → Lies a p k q) (s : Shape) (h : Grouped s) (z y x kz ky kx : ℕ) where
+module _ (f : Span → ℕ → ℕ → Option ℕ) (Lies : Span → ℕ → ℕ → ℕ → Type 0) (lies_at_lem : (a : Span) (p k q : ℕ) → 1 ≤ a.stride → Lies a p k q → f a p k ≡ Some q) (at_lies : (a : Span) (p k q : ℕ) → 1 ≤ a.stride → f a p k ≡ Some q → Lies a p k q) (s : Shape) (h : Grouped s) (z y x kz ky kx : ℕ) where
   -- at a depth, a row and a column
   pub lies_inside : (iz iy ix : ℕ) → Lies s.z z kz iz → Lies s.y y ky iy → Lies s.x x kx ix
-      → on_axes s (f s.z z kz) (f s.y y ky) (f s.x x kx) ≡ At (in_plane s.y.input s.x.input iz iy ix)
+      → on_axes s (f s.z z kz) (f s.y y ky) (f s.x x kx) ≡ Some (in_plane s.y.input s.x.input iz iy ix)
   unfolding both
   lies_inside iz iy ix a b c =
       rw (lies_at_lem s.z z kz iz h.sound.z.stride_1 a, lies_at_lem s.y y ky iy h.sound.y.stride_1 b, lies_at_lem s.x x kx ix h.sound.x.stride_1 c)
 
   -- at no depth, row and column together
   pub lies_outside : ((iz iy ix : ℕ) → Lies s.z z kz iz → Lies s.y y ky iy → Lies s.x x kx ix → ⊥)
-      → on_axes s (f s.z z kz) (f s.y y ky) (f s.x x kx) ≡ Outside
+      → on_axes s (f s.z z kz) (f s.y y ky) (f s.x x kx) ≡ None
   unfolding both
   lies_outside none = go (f s.z z kz) (f s.y y ky) (f s.x x kx) refl refl refl
     where
-      go : (a b c : Tap) → f s.z z kz ≡ a → f s.y y ky ≡ b → f s.x x kx ≡ c → on_axes s a b c ≡ Outside
-      go (At iz) (At iy) (At ix) ea eb ec =
+      go : (a b c : Option ℕ) → f s.z z kz ≡ a → f s.y y ky ≡ b → f s.x x kx ≡ c → on_axes s a b c ≡ None
+      go (Some iz) (Some iy) (Some ix) ea eb ec =
           absurd
           (none iz iy ix (at_lies s.z z kz iz h.sound.z.stride_1 ea) (at_lies s.y y ky iy h.sound.y.stride_1 eb)
           (at_lies s.x x kx ix h.sound.x.stride_1 ec))
-      go (At iz) (At iy) Outside ea eb ec = refl
-      go (At iz) Outside c ea eb ec = refl
-      go Outside b c ea eb ec = refl
+      go (Some iz) (Some iy) None ea eb ec = refl
+      go (Some iz) None c ea eb ec = refl
+      go None b c ea eb ec = refl
 
 -- ---- the sum over all taps of an output, by four nested loops
 

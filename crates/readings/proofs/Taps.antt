@@ -1,9 +1,9 @@
 -- A position of the kernel finds the one position of the input plane that document 01's equation joins with it on every axis, or none: read from an output position
 -- (convolution, pooling), and as transposed convolution reads it.
+use Rattle.std.specs.Prelude.{Option}
 use Prim.Native.Nat.{ℕ, ◌/◌, ◌%◌, ◌≤◌}
 use mathlib.Core.Bool.{Bool, ◌&&◌}
 use Rattle.sizes.specs.declared.Span.{Span}
-use Rattle.taps.specs.declared.Tap.{Tap}
 use Rattle.taps.specs.Joins.{joins, forward, backward, Finds}
 use Rattle.taps.proofs.Joins.{forward_finds, backward_finds, both_finds}
 use Rattle.shape.specs.declared.Shape.{Shape}
@@ -21,7 +21,7 @@ on_each test s p k q =
     && test s.x (p % s.x.out) (k % s.x.kernel) (q % s.x.input)
 
 -- where each axis finds the position that passes its test, the plane finds the one that passes all
-plane_finds : (f : Span → ℕ → ℕ → Tap) (test : Span → ℕ → ℕ → ℕ → Bool) → ((a : Span) (p k : ℕ) → 1 ≤ a.stride → Finds a.input (test a p k) (f a p k))
+plane_finds : (f : Span → ℕ → ℕ → Option ℕ) (test : Span → ℕ → ℕ → ℕ → Bool) → ((a : Span) (p k : ℕ) → 1 ≤ a.stride → Finds a.input (test a p k) (f a p k))
     → (s : Shape) → Sound s → (p k : ℕ) → Finds (input_volume s) (on_each test s p k) (on_plane f s p k)
 unfolding input_rows on_rows on_plane
 plane_finds f test finds s h p k =

@@ -1,5 +1,6 @@
 -- Transposed convolution in document 01's words: the places of its taps, for output (n, g, o, z, y, x) and tap (i, kz, ky, kx), each at its row-major number, and
 -- the sum over them by four nested loops.
+use Rattle.std.specs.Prelude.{Some}
 use mathlib.Core.Path.{◌≡◌, ap, ◌∙◌}
 use mathlib.Core.List.{List}
 use Prim.Native.Nat.{ℕ, ◌+◌, ◌*◌, ◌≤◌, ◌<◌}
@@ -7,7 +8,6 @@ use borrow.Author.Tests.{eqb-true, eq-eqb}
 use lib.Ieee.{Float}
 use Rattle.layer.proofs.Places.{place_div, place_mod}
 use Rattle.sizes.specs.declared.Span.{Span}
-use Rattle.taps.specs.declared.Tap.TheVariants.{At}
 use Rattle.taps.specs.Joins.{joins, backward}
 use Rattle.taps.proofs.Joins.{backward_finds, finds_at, at_finds}
 use Rattle.shape.specs.declared.Shape.{Shape}
@@ -25,10 +25,10 @@ pub record Reaches (s : Span) (p k q : ℕ) : Type 0 where
   pub inside : q < s.input
 
 -- the definition's tap is that row
-reaches_at : (s : Span) (p k q : ℕ) → 1 ≤ s.stride → Reaches s p k q → backward s p k ≡ At q
+reaches_at : (s : Span) (p k q : ℕ) → 1 ≤ s.stride → Reaches s p k q → backward s p k ≡ Some q
 reaches_at s p k q l h = finds_at s.input (λ r. joins s r k p) (backward s p k) q (backward_finds s p k l) h.inside (eq-eqb _ _ h.position)
 
-at_reaches : (s : Span) (p k q : ℕ) → 1 ≤ s.stride → backward s p k ≡ At q → Reaches s p k q
+at_reaches : (s : Span) (p k q : ℕ) → 1 ≤ s.stride → backward s p k ≡ Some q → Reaches s p k q
 at_reaches s p k q l e =
     let u = at_finds s.input (λ r. joins s r k p) (backward s p k) q (backward_finds s p k l) e in
     record { position = eqb-true (q * s.stride + k * s.dilation) (p + s.begin) u.1; inside = u.0 }
