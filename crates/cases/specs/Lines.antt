@@ -1,22 +1,21 @@
 -- The lines of a test case: the value of a line, and where a later line starts.
-use Rattle.std.specs.Prelude.{ℕ, zero, suc, List, [], length}
+use Rattle.std.specs.Prelude.{ℕ, zero, suc, List, [], length, Option, Some, None}
 use Rattle.text.specs.Texts.{text, part}
 use Rattle.text.specs.Lines.{line}
 use Rattle.text.specs.declared.Line.{Line}
-use Rattle.text.specs.declared.Line.TheVariants.{Value, NoLine}
 
-abbrev pub value_in : List ℕ → Line → List ℕ
-value_in s (Value start end next) = part s start end
-value_in s NoLine = []
+abbrev pub value_in : List ℕ → Option Line → List ℕ
+value_in s (Some l) = part s l.start l.end
+value_in s None = []
 
 -- the value of the line at a place, where it has the key; else empty
 unfoldable pub value_of : List ℕ → List ℕ → ℕ → List ℕ
 value_of key s at = value_in s (line key s at)
 
 -- where the next line starts, or another place where there is no line
-abbrev pub next_or : ℕ → Line → ℕ
-next_or place (Value start end next) = next
-next_or place NoLine = place
+abbrev pub next_or : ℕ → Option Line → ℕ
+next_or place (Some l) = l.next
+next_or place None = place
 
 -- where the line after the one at a place starts; the end of s where there is none
 unfoldable pub after_line : List ℕ → ℕ → ℕ

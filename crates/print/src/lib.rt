@@ -1,5 +1,5 @@
 // Bytes put into a lent buffer: texts, numbers and lists of numbers. Each function puts its bytes from a place on, as far as the buffer goes, and
-// tells the next place.
+// tells the next place. Buffer and place stay two parameters: in a struct that holds the lent buffer, each contract needs a clause more, that it is the same buffer.
 #![tactic(auto)]
 
 ghost use Rattle.std.specs.Prelude.{◌≤◌, [], ◌∷◌, ◌≡◌};

@@ -1,4 +1,5 @@
-// Bytes as text: words, numbers, lists of numbers and lines with a key, read from lent bytes.
+// Bytes as text: words, numbers, lists of numbers and lines with a key, read from lent bytes. Text and place stay two parameters, as in the definitions, and the next
+// place is part of the answer: a struct that moves on would need clauses on where it stands, after a refusal too.
 #![tactic(auto)]
 
 ghost use Rattle.std.specs.Prelude.{◌≤◌, ◌≡◌};
