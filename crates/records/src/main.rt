@@ -11,7 +11,7 @@ ghost use Rattle.std.specs.Prelude.{◌≤◌};
 use cases::outputs::{is_kept, whole_number};
 use cases::{after_line, after_sheet, value_of};
 use convolution::convolution;
-use layer::{Axis, Layer, Rounding};
+use layer::{Axis, Layer, Rounding, SheetRefusal};
 use lines::Read;
 use pooling::max_pool;
 use sheet::{read_sheet, write_sheet};
@@ -21,7 +21,6 @@ use sums::Profile;
 use tensor::pick_plane;
 use text::{Items, Number, Numbers, part_of, read_number, read_numbers};
 use transposed::transposed;
-use writer::Written;
 
 // What stands in outputs and in the buffer before a call; no case expects one of them.
 const MARK: f32 = 7.0;
@@ -123,15 +122,19 @@ fn print_sheet(rt: &impl Print, sheet: &[u8]) -> io::Result<()> {
     Ok(())
 }
 
-fn print_written(rt: &impl Print, written: Written, buffer: &[u8; 512]) -> io::Result<()> {
-    let length = written.length;
-    print!(rt;
-        " write={} line={} length={length} ",
-        written.number, written.line
-    )?;
-    if written.number != 0 {
-        return print!(rt; "{}", kept_word(is_kept(buffer, &BYTE_MARK)));
-    }
+fn print_written(
+    rt: &impl Print,
+    written: Result<usize, SheetRefusal>,
+    buffer: &[u8; 512],
+) -> io::Result<()> {
+    let length = match written {
+        Ok(length) => length,
+        Err(SheetRefusal { error, line }) => {
+            let kept = kept_word(is_kept(buffer, &BYTE_MARK));
+            return print!(rt; " write={} line={line} length=0 {kept}", error.number());
+        }
+    };
+    print!(rt; " write=0 line=0 length={length} ")?;
     print_sheet(rt, part_of(buffer, 0, length))?;
     let rest = part_of(buffer, length, buffer.len());
     print!(rt; " rest={}", kept_word(is_kept(rest, &BYTE_MARK)))
