@@ -4,6 +4,8 @@
 ghost use Rattle.std.specs.Prelude.{◌≡◌};
 ghost use Rattle.cases.specs.Lines.{value_of, after_line, after_version, after_sheet};
 
+pub mod outputs;
+
 use text::{part_of, read_line};
 
 // The value of the line at a place, after its key; empty where there is no such line.

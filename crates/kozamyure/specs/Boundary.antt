@@ -1,6 +1,6 @@
 -- The C boundary. Each call takes the text of a sheet: a sheet that is not read is refused with its number, 20 to 23, and its line; else the answer is that of
 -- the function on the layer that the sheet says. "A tensor, place, number of bad elements or line that a number doesn't use is 0"
-use Rattle.std.specs.Prelude.{ℕ, ◌+◌, ◌*◌, List, ℤ, Float}
+use Rattle.std.specs.Prelude.{ℕ, ◌+◌, ◌*◌, List, ℤ, Float, Result, Ok, Err}
 use Rattle.layer.specs.declared.Op.{Op}
 use Rattle.layer.specs.declared.Op.TheVariants.{Convolution, Transposed, MaxPool}
 use Rattle.layer.specs.declared.Answer.{Answer}
@@ -17,7 +17,8 @@ use Rattle.pooling.specs.Call.{max_pool_answer, max_pool_values, max_pool_indice
 use Rattle.lines.specs.declared.Read.{Read}
 use Rattle.lines.specs.declared.Read.TheVariants.{Sheet, Refused}
 use Rattle.writer.specs.Writer.{write_sheet, buffer_after}
-use Rattle.writer.specs.declared.Written.{Written}
+use Rattle.layer.specs.declared.SheetRefusal.{SheetRefusal}
+use Rattle.layer.specs.Refusals.{sheet_number}
 use Rattle.report.specs.declared.OutputSizes.{OutputSizes}
 use Rattle.report.specs.declared.OutputSizes.TheVariants.{Sizes, NoSizes}
 use Rattle.report.specs.Output.{output_of}
@@ -104,10 +105,12 @@ peak_found a = record { number = a.number; place = a.place; bad = a.bad; value =
 
 -- ---- a sheet read and written back
 
-abbrev pub written_back : Written → SheetWritten
-written_back w = record { number = w.number; line = w.line; length = w.length }
+-- "a refused write tells length 0"
+abbrev pub written_back : Result ℕ SheetRefusal → SheetWritten
+written_back (Ok n) = record { number = 0; line = 0; length = n }
+written_back (Err refusal) = record { number = sheet_number refusal.error; line = refusal.line; length = 0 }
 
--- "a refused write tells length 0", and so does a sheet that is not read
+-- a sheet that is not read tells length 0 too
 unfoldable pub rewrite_answer : Read → ℕ → SheetWritten
 rewrite_answer (Sheet l) room = written_back (write_sheet l room)
 rewrite_answer (Refused number line) room = record { number = number; line = line; length = 0 }

@@ -11,10 +11,10 @@ ghost use Rattle.places.specs.Places.{place_of as convolutionPlaces};
 ghost use Rattle.transposed.specs.Transposed.{place_of as transposedPlaces};
 ghost use Rattle.sheet.specs.Sheet.{read_sheet};
 ghost use Rattle.report.specs.Output.{output_of};
-ghost use Rattle.kozamyure.specs.Boundary.{unread, answered, call_answer, call_contents, pool_answer, pool_values, pool_indices, no_shape, sizes_shape, shape_answer, no_lengths, kernel_length, lengths_in, lengths_answer, plane_part, peak_found, rewrite_answer, rewrite_buffer, version};
+ghost use Rattle.kozamyure.specs.Boundary.{unread, answered, call_answer, call_contents, pool_answer, pool_values, pool_indices, no_shape, sizes_shape, shape_answer, no_lengths, kernel_length, lengths_in, lengths_answer, plane_part, peak_found, written_back, rewrite_answer, rewrite_buffer, version};
 
 use convolution::convolution;
-use layer::{Answer, Layer, Op};
+use layer::{Answer, Layer, Op, SheetRefusal};
 use lines::Read;
 use pooling::max_pool;
 use report::{OutputSizes, output_sizes};
@@ -325,6 +325,23 @@ pub extern "C" fn koza_peak(plane: &[f32], width: usize) -> PeakFound
     }
 }
 
+fn written_back(written: Result<usize, SheetRefusal>) -> SheetWritten
+    ensures { result ≡ written_back written }
+{
+    match written {
+        Ok(length) => SheetWritten {
+            number: 0,
+            line: 0,
+            length,
+        },
+        Err(refusal) => SheetWritten {
+            number: refusal.error.number(),
+            line: refusal.line,
+            length: 0,
+        },
+    }
+}
+
 // Where the number is 0, the buffer begins with the sheet's own bytes.
 #[unsafe(no_mangle)]
 pub extern "C" fn koza_rewrite(sheet: &[u8], buffer: &mut [u8]) -> SheetWritten
@@ -339,14 +356,7 @@ pub extern "C" fn koza_rewrite(sheet: &[u8], buffer: &mut [u8]) -> SheetWritten
             line,
             length: 0,
         },
-        Read::Sheet(layer) => {
-            let w = write_sheet(layer, buffer);
-            SheetWritten {
-                number: w.number,
-                line: w.line,
-                length: w.length,
-            }
-        }
+        Read::Sheet(layer) => written_back(write_sheet(layer, buffer)),
     }
 }
 

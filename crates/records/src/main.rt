@@ -8,18 +8,19 @@
 
 ghost use Rattle.std.specs.Prelude.{◌≤◌};
 
+use cases::outputs::{is_kept, whole_number};
 use cases::{after_line, after_sheet, value_of};
 use convolution::convolution;
-use layer::{Axis, Layer, Rounding};
+use layer::{Axis, Layer, Rounding, SheetRefusal};
 use lines::Read;
 use pooling::max_pool;
 use sheet::{read_sheet, write_sheet};
-use std::io;
+use std::fmt::Display;
+use std::{fmt, io};
 use sums::Profile;
 use tensor::pick_plane;
-use text::{Items, Number, Numbers, is_text, part_of, read_number, read_numbers, starts};
+use text::{Items, Number, Numbers, part_of, read_number, read_numbers};
 use transposed::transposed;
-use writer::Written;
 
 // What stands in outputs and in the buffer before a call; no case expects one of them.
 const MARK: f32 = 7.0;
@@ -28,158 +29,115 @@ const INDEX_MARK: i64 = -7;
 
 const BYTE_MARK: u8 = 35;
 
+// The one element of the input and of the kernel that the operators are called with.
+const INPUT: f32 = 2.0;
+
+const KERNEL: f32 = 3.0;
+
 // ---- printing
 
-fn print(rt: &impl Print, text: &[u8]) -> io::Result<()> {
-    rt.write_all(text)
-}
+// A whole number from 0 to 999. No case expects another value; -0 is told apart from 0.
+#[derive(Clone, Copy)]
+struct Value(f32);
 
-fn print_number(rt: &impl Print, n: u64) -> io::Result<()> {
-    rt.print(n)
-}
-
-// The whole number below 1,000 that a value is, or 1,000.
-fn whole_of(value: f32) -> u16 {
-    let mut n: u16 = 0;
-    while n < 1000 {
-        if n as f32 == value {
-            return n;
+impl Display for Value {
+    fn fmt<W: fmt::Write>(&self, f: &mut fmt::Formatter<W>) -> fmt::Result {
+        let value = self.0;
+        let sign = if 1.0 / value < 0.0 { "-" } else { "" };
+        match whole_number(value) {
+            Some(n) if n < 1000 => write!(f, "{sign}{n}"),
+            _ => write!(f, "{sign}?"),
         }
-        n += 1;
     }
-    n
-}
-
-fn print_magnitude(rt: &impl Print, value: f32) -> io::Result<()> {
-    let n = whole_of(value);
-    if n < 1000 {
-        print_number(rt, n as u64)
-    } else {
-        print(rt, b"?")
-    }
-}
-
-// A whole number from 0 on. No case expects another value; -0 is told apart from 0.
-fn print_value(rt: &impl Print, value: f32) -> io::Result<()> {
-    if 1.0 / value < 0.0 {
-        print(rt, b"-")?;
-    }
-    print_magnitude(rt, value)
 }
 
 // The only index that a tensor of one element has is 0.
-fn print_index(rt: &impl Print, index: i64) -> io::Result<()> {
-    if index == 0 {
-        print(rt, b"0")
-    } else {
-        print(rt, b"?")
+#[derive(Clone, Copy)]
+struct Index(i64);
+
+impl Display for Index {
+    fn fmt<W: fmt::Write>(&self, f: &mut fmt::Formatter<W>) -> fmt::Result {
+        write!(f, "{}", if self.0 == 0 { "0" } else { "?" })
     }
 }
 
-fn print_kept(rt: &impl Print, kept: bool) -> io::Result<()> {
-    if kept {
-        print(rt, b"kept")
-    } else {
-        print(rt, b"changed")
-    }
+fn kept_word(kept: bool) -> &'static str {
+    if kept { "kept" } else { "changed" }
 }
 
 // ---- the operators
 
+// The one element of an output, or that it is as it was.
 fn print_output(rt: &impl Print, number: u32, output: f32) -> io::Result<()> {
-    print_number(rt, number as u64)?;
-    print(rt, b" ")?;
     if output == MARK {
-        return print(rt, b"kept");
+        return print!(rt; "{number} kept");
     }
-    print_value(rt, output)
+    print!(rt; "{number} {}", Value(output))
 }
 
-fn run_convolution(rt: &impl Print, name: &[u8], profile: Profile, layer: Layer) -> io::Result<()> {
-    let input = [2.0f32];
-    let kernel = [3.0f32];
+fn run_convolution(rt: &impl Print, name: &str, profile: Profile, layer: Layer) -> io::Result<()> {
     let mut output = [MARK];
-    let answer = convolution(profile, layer, &input, &kernel, &mut output);
-    print(rt, name)?;
+    let answer = convolution(profile, layer, &[INPUT], &[KERNEL], &mut output);
+    print!(rt; " {name}=")?;
     print_output(rt, answer.number, output[0])
 }
 
 fn run_transposed(rt: &impl Print, layer: Layer) -> io::Result<()> {
-    let input = [2.0f32];
-    let kernel = [3.0f32];
     let mut output = [MARK];
-    let answer = transposed(layer, &input, &kernel, &mut output);
-    print(rt, b" transposed=")?;
+    let answer = transposed(layer, &[INPUT], &[KERNEL], &mut output);
+    print!(rt; " transposed=")?;
     print_output(rt, answer.number, output[0])
 }
 
 // A value with its index.
 fn print_best(rt: &impl Print, value: f32, index: i64) -> io::Result<()> {
-    let kept = value == MARK;
-    if kept != (index == INDEX_MARK) {
-        return print(rt, b"mixed");
+    match (value == MARK, index == INDEX_MARK) {
+        (true, true) => print!(rt; "kept"),
+        (false, false) => print!(rt; "{}@{}", Value(value), Index(index)),
+        _ => print!(rt; "mixed"),
     }
-    if kept {
-        return print(rt, b"kept");
-    }
-    print_value(rt, value)?;
-    print(rt, b"@")?;
-    print_index(rt, index)
 }
 
 fn run_max_pool(rt: &impl Print, layer: Layer) -> io::Result<()> {
-    let input = [2.0f32];
     let mut values = [MARK];
     let mut indices = [INDEX_MARK];
-    let answer = max_pool(layer, &input, &mut values, &mut indices);
-    print(rt, b" maxpool=")?;
-    print_number(rt, answer.number as u64)?;
-    print(rt, b" ")?;
+    let answer = max_pool(layer, &[INPUT], &mut values, &mut indices);
+    print!(rt; " maxpool={} ", answer.number)?;
     print_best(rt, values[0], indices[0])
 }
 
 // ---- the writer
 
-// Whether every byte is still the mark.
-fn is_kept(bytes: &[u8]) -> bool {
-    let mut i = 0;
-    while i < bytes.len() {
-        if bytes[i] != BYTE_MARK {
-            return false;
-        }
-        i += 1;
-    }
-    true
-}
-
 // A sheet on one line: its line ends are printed as bars.
 fn print_sheet(rt: &impl Print, sheet: &[u8]) -> io::Result<()> {
-    let mut i = 0;
-    while i < sheet.len() {
-        if sheet[i] == 10 {
-            print(rt, b"|")?;
-        } else {
-            print(rt, part_of(sheet, i, i + 1))?;
+    for line in sheet.split_inclusive(|b| *b == b'\n') {
+        match line.strip_suffix(b"\n") {
+            Some(text) => {
+                rt.write_all(text)?;
+                print!(rt; "|")?;
+            }
+            None => rt.write_all(line)?,
         }
-        i += 1;
     }
     Ok(())
 }
 
-fn print_written(rt: &impl Print, written: Written, buffer: &[u8; 512]) -> io::Result<()> {
-    print(rt, b" write=")?;
-    print_number(rt, written.number as u64)?;
-    print(rt, b" line=")?;
-    print_number(rt, written.line as u64)?;
-    print(rt, b" length=")?;
-    print_number(rt, written.length as u64)?;
-    print(rt, b" ")?;
-    if written.number != 0 {
-        return print_kept(rt, is_kept(buffer));
-    }
-    print_sheet(rt, part_of(buffer, 0, written.length))?;
-    print(rt, b" rest=")?;
-    print_kept(rt, is_kept(part_of(buffer, written.length, buffer.len())))
+fn print_written(
+    rt: &impl Print,
+    written: Result<usize, SheetRefusal>,
+    buffer: &[u8; 512],
+) -> io::Result<()> {
+    let length = match written {
+        Ok(length) => length,
+        Err(SheetRefusal { error, line }) => {
+            let kept = kept_word(is_kept(buffer, &BYTE_MARK));
+            return print!(rt; " write={} line={line} length=0 {kept}", error.number());
+        }
+    };
+    print!(rt; " write=0 line=0 length={length} ")?;
+    print_sheet(rt, part_of(buffer, 0, length))?;
+    let rest = part_of(buffer, length, buffer.len());
+    print!(rt; " rest={}", kept_word(is_kept(rest, &BYTE_MARK)))
 }
 
 // The buffer goes on behind the bytes that are lent.
@@ -195,8 +153,7 @@ fn run_write(rt: &impl Print, layer: Layer, room: usize) -> io::Result<()>
 
 // The number that a text spells; else the other number.
 fn number_or(t: &[u8], other: u32) -> u32 {
-    let number = read_number(t);
-    match number {
+    match read_number(t) {
         Number::Value(n) => n,
         Number::NoNumber => other,
     }
@@ -207,17 +164,14 @@ fn length_at(s: &[u8], at: usize, key: &[u8], most: usize) -> usize
     ensures { result ≤ most }
 {
     let length = number_or(value_of(s, at, key), 0) as usize;
-    if length <= most { length } else { most }
+    length.min(most)
 }
 
 // ---- the changed field: each field is the change's value where the change has its key, and else as it was
 
 // What comes after the key; empty where the text has another key.
 fn after_key<'a>(t: &'a [u8], key: &[u8]) -> &'a [u8] {
-    if starts(t, key) {
-        return part_of(t, key.len(), t.len());
-    }
-    part_of(t, 0, 0)
+    t.strip_prefix(key).unwrap_or(&[])
 }
 
 fn changed_field(field: u32, change: &[u8], key: &[u8]) -> u32 {
@@ -238,61 +192,42 @@ fn changed_fields(a: Axis, change: &[u8]) -> Axis {
 }
 
 fn changed_rounding(rounding: Rounding, value: &[u8]) -> Rounding {
-    if is_text(value, b"ceil") {
-        return Rounding::Ceil;
+    match value {
+        b"ceil" => Rounding::Ceil,
+        b"floor" => Rounding::Floor,
+        b"ceil_torch" => Rounding::CeilTorch,
+        _ => rounding,
     }
-    if is_text(value, b"floor") {
-        return Rounding::Floor;
-    }
-    if is_text(value, b"ceil_torch") {
-        return Rounding::CeilTorch;
-    }
-    rounding
 }
 
 // A number up to 100.
 fn small(t: &[u8]) -> u8 {
-    let number = read_number(t);
-    match number {
-        Number::Value(n) => { if n < 100 { n as u8 } else { 100 } }
-        Number::NoNumber => 100,
-    }
+    number_or(t, 100).min(100) as u8
 }
 
 fn changed_axis(axis: i32, value: &[u8]) -> i32 {
-    if value.len() == 0 {
+    if value.is_empty() {
         return axis;
     }
-    if starts(value, b"-") {
-        return -(small(part_of(value, 1, value.len())) as i32);
+    match value.strip_prefix(b"-") {
+        Some(digits) => -i32::from(small(digits)),
+        None => i32::from(small(value)),
     }
-    small(value) as i32
 }
 
 fn changed(l: Layer, change: &[u8]) -> Layer {
-    let op = l.op;
-    let auto_pad = l.auto_pad;
-    let rounding = l.rounding;
-    let z = changed_fields(l.z, after_key(change, b"z."));
-    let y = changed_fields(l.y, after_key(change, b"y."));
-    let x = changed_fields(l.x, after_key(change, b"x."));
-    let rounding_after = changed_rounding(rounding, after_key(change, b"rounding="));
-    let axis = changed_axis(l.axis, after_key(change, b"axis="));
     Layer {
         version: changed_field(l.version, change, b"version="),
-        op: op,
         axes: changed_field(l.axes, change, b"axes="),
-        n: l.n,
-        c: l.c,
         g: changed_field(l.g, change, b"g="),
         o: changed_field(l.o, change, b"o="),
         i: changed_field(l.i, change, b"i="),
-        z: z,
-        y: y,
-        x: x,
-        auto_pad: auto_pad,
-        rounding: rounding_after,
-        axis: axis,
+        z: changed_fields(l.z, after_key(change, b"z.")),
+        y: changed_fields(l.y, after_key(change, b"y.")),
+        x: changed_fields(l.x, after_key(change, b"x.")),
+        rounding: changed_rounding(l.rounding, after_key(change, b"rounding=")),
+        axis: changed_axis(l.axis, after_key(change, b"axis=")),
+        ..l
     }
 }
 
@@ -301,8 +236,8 @@ fn changed(l: Layer, change: &[u8]) -> Layer {
 fn run_layer(rt: &impl Print, layer: Layer, room: usize) -> io::Result<()>
     requires { room ≤ 480 }
 {
-    run_convolution(rt, b" convolution=", Profile::Running, layer)?;
-    run_convolution(rt, b" halved=", Profile::Halved, layer)?;
+    run_convolution(rt, "convolution", Profile::Running, layer)?;
+    run_convolution(rt, "halved", Profile::Halved, layer)?;
     run_transposed(rt, layer)?;
     run_max_pool(rt, layer)?;
     run_write(rt, layer, room)
@@ -313,39 +248,35 @@ fn run_record(rt: &impl Print, s: &[u8], at: usize) -> io::Result<usize> {
     let sheet = after_line(s, at);
     let change = after_sheet(s, sheet);
     let room = after_line(s, change);
-    let read = read_sheet(part_of(s, sheet, change));
-    match read {
-        Read::Refused(_, _) => print(rt, b" no sheet")?,
+    match read_sheet(part_of(s, sheet, change)) {
+        Read::Refused(_, _) => print!(rt; " no sheet")?,
         Read::Sheet(layer) => run_layer(
             rt,
             changed(layer, value_of(s, change, b"")),
             length_at(s, room, b"room=", 480),
         )?,
     }
-    print(rt, b"\n")?;
+    println!(rt)?;
     Ok(after_line(s, room))
 }
 
-// Each element is its own place.
-fn fill_places(tensor: &mut [f32]) {
+// A tensor whose elements are their own places.
+fn places() -> [f32; 64] {
+    let mut tensor = [0.0f32; 64];
     let mut value = 0.0f32;
-    let mut i = 0;
-    while i < tensor.len() {
-        tensor[i] = value;
-        value = value + 1.0;
-        i += 1;
+    for element in tensor.iter_mut() {
+        *element = value;
+        value += 1.0;
     }
+    tensor
 }
 
 fn print_plane(rt: &impl Print, plane: &[f32]) -> io::Result<()> {
-    print(rt, b" plane=")?;
-    let mut i = 0;
-    while i < plane.len() {
-        if 0 < i {
-            print(rt, b",")?;
-        }
-        print_value(rt, plane[i])?;
-        i += 1;
+    print!(rt; " plane=")?;
+    let mut separator = "";
+    for x in plane {
+        print!(rt; "{separator}{}", Value(*x))?;
+        separator = ",";
     }
     Ok(())
 }
@@ -360,8 +291,7 @@ fn pick(
 ) -> io::Result<()>
     requires { length ≤ 64 }
 {
-    let mut tensor = [0.0f32; 64];
-    fill_places(&mut tensor);
+    let tensor = places();
     let plane = pick_plane(
         &tensor[..length],
         sizes.a,
@@ -383,9 +313,8 @@ fn run_plane(rt: &impl Print, s: &[u8], at: usize) -> io::Result<usize> {
     let image = after_line(s, length);
     let channel = after_line(s, image);
     let depth = after_line(s, channel);
-    let list = read_numbers(value_of(s, sizes, b"sizes="), 5);
-    match list {
-        Numbers::NoNumbers => print(rt, b" no sizes")?,
+    match read_numbers(value_of(s, sizes, b"sizes="), 5) {
+        Numbers::NoNumbers => print!(rt; " no sizes")?,
         Numbers::These(items) => pick(
             rt,
             items,
@@ -395,7 +324,7 @@ fn run_plane(rt: &impl Print, s: &[u8], at: usize) -> io::Result<usize> {
             number_or(value_of(s, depth, b"depth="), 0),
         )?,
     }
-    print(rt, b"\n")?;
+    println!(rt)?;
     Ok(after_line(s, depth))
 }
 
@@ -403,10 +332,10 @@ fn run_plane(rt: &impl Print, s: &[u8], at: usize) -> io::Result<usize> {
 fn run_case(rt: &impl Print, s: &[u8], at: usize) -> io::Result<usize> {
     let plane = value_of(s, at, b"plane=");
     let record = value_of(s, at, b"record=");
-    print(rt, plane)?;
-    print(rt, record)?;
-    print(rt, b":")?;
-    if plane.len() == 0 {
+    rt.write_all(plane)?;
+    rt.write_all(record)?;
+    print!(rt; ":")?;
+    if plane.is_empty() {
         return run_record(rt, s, at);
     }
     run_plane(rt, s, at)
@@ -415,13 +344,11 @@ fn run_case(rt: &impl Print, s: &[u8], at: usize) -> io::Result<usize> {
 // At most 1,000 cases.
 fn run_all(rt: &impl Print, s: &[u8]) -> io::Result<()> {
     let mut at = 0;
-    let mut count = 0usize;
-    while count < 1000 {
+    for _ in 0..1000 {
         if s.len() <= at {
-            return Ok(());
+            break;
         }
         at = run_case(rt, s, at)?;
-        count += 1;
     }
     Ok(())
 }

@@ -9,7 +9,7 @@ ghost use Rattle.print.specs.Put.{Put};
 ghost use Rattle.report.specs.Output.{output_of};
 ghost use Rattle.report.specs.Report.{answer_line, line_line, output_line, sizes_report, report_of};
 
-use fields::input_list;
+use fields::{PerAxis, input_list};
 use layer::Layer;
 use lines::{Read, put_line};
 use shape::{Judged, judge};
@@ -67,7 +67,12 @@ fn put_output(buf: &mut [u8], axes: u32, o: Output) -> usize
     ensures put { Put buf.old 0 (answer_line 0 ++ output_line axes o) result buf.new }
     ensures upper_bound { result ≤ 80 }
 {
-    let sizes = input_list(axes, o.n, o.c, o.z, o.y, o.x);
+    let on = PerAxis {
+        z: o.z,
+        y: o.y,
+        x: o.x,
+    };
+    let sizes = input_list(axes, o.n, o.c, on);
     let next = put_number_line(buf, 0, b"answer=", 0);
     let list = Field::NumberList(axes as usize + 2);
     put_line(buf, next, b"output=", list, sizes)

@@ -38,7 +38,8 @@ use Rattle.fields.specs.declared.PerAxis.{PerAxis}
 use Rattle.fields.specs.Sheet.{size_lines, pad_lines, last_lines, twelve_lines, thirteen_lines, sheet_values, version_line, show_sheet}
 use Rattle.faults.specs.Faults.{bad_axis, hides, hides_sizes, is_default_padding}
 use Rattle.writer.specs.Writer.{written, write_sheet, buffer_after}
-use Rattle.writer.specs.declared.Written.{Written}
+use Rattle.std.specs.Prelude.{Result, Ok, Err, IfOk}
+use Rattle.layer.specs.declared.SheetRefusal.{SheetRefusal}
 use Rattle.sheet.specs.Sheet.{lines_of, read_sheet}
 use Rattle.values.proofs.ValueLaws.{version_readable, version_back, op_again, auto_pad_again, rounding_again, op_readable, auto_pad_readable, rounding_readable, op_back, auto_pad_back, rounding_back, axes_readable, axes_back, OneDigit, axis_readable, axis_again, axis_back, list_readable, list_back}
 use Rattle.lines.proofs.FormLaws.{Says, form_there, form_back, form_numbered}
@@ -413,18 +414,19 @@ sheet_back s l e = go (starts_with (text "version=") s) e
 
 -- ---- the two laws, on what a call of the writer answers and leaves
 
--- Reading what was written: where a write answers 0, the bytes that it tells of are read as the layer that was written.
-pub way_back : (l : Layer) → LayerFits l → (before left : List ℕ) (w : Written) → w ≡ write_sheet l (length before) → left ≡ buffer_after l before
-    → w.number ≡ 0 → read_sheet (take w.length left) ≡ Sheet l
-way_back l f before left w a b e =
-    let t = taken l before (sym (ap (λ (v : Written). v.number) a) ∙ e) in
-    rw (a, b, t.long, t.left, take-append_seam (show_sheet l) (drop (length (show_sheet l)) before)) (sheet_there l (passed l t.fine) f)
+-- Reading what was written: where a write is not refused, the bytes that it tells of are read as the layer that was written.
+pub way_back : (l : Layer) → LayerFits l → (before left : List ℕ) (w : Result ℕ SheetRefusal) → w ≡ write_sheet l (length before) → left ≡ buffer_after l before
+    → IfOk w (λ n. read_sheet (take n left) ≡ Sheet l)
+way_back l f before left (Err refusal) a b = tt
+way_back l f before left (Ok n) a b =
+    let t = taken l before n (sym a) in
+    rw (b, t.long, t.left, take-append_seam (show_sheet l) (drop (length (show_sheet l)) before)) (sheet_there l (passed l t.fine) f)
 
--- A layer that was read from s, where a write of it answers 0: the bytes that it tells of are s.
-pub rewritten : (s : List ℕ) (l : Layer) → read_sheet s ≡ Sheet l → (buffer : List ℕ) → (write_sheet l (length buffer)).number ≡ 0
-    → ((write_sheet l (length buffer)).length ≡ length s) × (take (write_sheet l (length buffer)).length (buffer_after l buffer) ≡ s)
-rewritten s l e buffer z =
-    let t = taken l buffer z in
+-- A layer that was read from s, where a write of it is not refused: the bytes that it tells of are s.
+pub rewritten : (s : List ℕ) (l : Layer) → read_sheet s ≡ Sheet l → (buffer : List ℕ) (n : ℕ) → write_sheet l (length buffer) ≡ Ok n
+    → (n ≡ length s) × (take n (buffer_after l buffer) ≡ s)
+rewritten s l e buffer n z =
+    let t = taken l buffer n z in
     let b = (sheet_back s l e).0 in
     (t.long ∙ ap length b, rw (t.long, t.left, b, take-append_seam s (drop (length s) buffer)))
 
