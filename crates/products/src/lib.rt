@@ -21,7 +21,8 @@ fn pairs_by_position(s: Span) -> usize
 {
     let mut pairs = 0;
     for p in 0..s.out {
-        pairs += taps_inside(s, p).count;
+        let inside = taps_inside(s, p);
+        pairs += inside.count;
     }
     pairs
 }

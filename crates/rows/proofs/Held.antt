@@ -54,11 +54,11 @@ summed_first taps k {r} {sums} {ys} h i =
     let j = summed_same {others = λ x. taps (0 + x)} (rw n at i) (λ x j p q. ap (λ (m : ℕ). taps m j) (sym (zero-add x))) in
     rw zero-add at (summed_part taps k 0 r (summed_none taps k sums) (omega arith) j (omega (arith, length-append ys (drop r sums), length-drop r sums, i.kept)))
 
--- so where the code hands on the stride and the dilation by other names
-module _ (sums values weights : List Float) {stride dilation s d r : ℕ} (es : stride ≡ s) (ed : dilation ≡ d) (e : r ≡ held (length sums) (length values) (length weights) stride dilation) where
-  pub first_held : (x k : ℕ) → x < length (take r sums) → k < length weights → x * s + k * d < length values
-  first_held x k l m = rw (← es, ← ed) (held_tap (length sums) (length values) (length weights) stride dilation (omega arith) x k (rw (length-take-le r sums (omega arith)) at l) m)
+-- those that have all their taps among the values
+module _ (sums values weights : List Float) (stride dilation : ℕ) {r : ℕ} (e : r ≡ held (length sums) (length values) (length weights) stride dilation) where
+  pub first_held : (x k : ℕ) → x < length (take r sums) → k < length weights → x * stride + k * dilation < length values
+  first_held x k l m = held_tap (length sums) (length values) (length weights) stride dilation (omega arith) x k (rw (length-take-le r sums (omega arith)) at l) m
 
-  pub first_taps : {ys : List Float} → Summed (across values weights s d) (length weights) (length (take r sums)) (take r sums) ys
+  pub first_taps : {ys : List Float} → Summed (across values weights stride dilation) (length weights) (length (take r sums)) (take r sums) ys
       → Summed (across values weights stride dilation) (length weights) (held (length sums) (length values) (length weights) stride dilation) sums (ys ++ drop r sums)
-  first_taps i = rw (← e, es, ed) (summed_first (across values weights s d) (length weights) (omega arith) i)
+  first_taps i = rw (← e) (summed_first (across values weights stride dilation) (length weights) (omega arith) i)

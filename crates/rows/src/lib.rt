@@ -13,7 +13,8 @@ use sums::add_product;
 
 // ---- convolution: a row of values under a kernel row
 
-// A row of values under a kernel row: tap k of the sum at x has the value at x * stride + k * dilation, and weight k.
+// A row of values under a kernel row: tap k of the sum at x has the value at x * stride + k * dilation, and weight k. That the values hold all of them is asked
+// where sums are lent, and no part of the row, since it says how many sums there are.
 #[derive(Clone, Copy)]
 struct Under<'a> {
     values: &'a [f32],
@@ -93,10 +94,25 @@ impl<'a> Under<'a> {
             }
         }
     }
+
+    // All taps of as many sums as have them among the values. A few sums are taken one after another. Put in place of each call, so that it is compiled with the
+    // steps that the call is given.
+    #[inline(always)]
+    fn add(&self, sums: &mut [f32])
+        ensures { Summed (across self.now.values.now self.now.weights.now self.now.stride self.now.dilation) (length self.now.weights.now) (held (length sums.old) (length self.now.values.now) (length self.now.weights.now) self.now.stride self.now.dilation) sums.old sums.new }
+    {
+        let n = self.held(sums.len());
+        let held = &mut sums[..n];
+        if n < 5 {
+            self.add_each(held);
+            return;
+        }
+        self.add_all(held);
+    }
 }
 
-// The sum at x takes tap after tap the values at x * stride, x * stride + dilation, .., each with its weight, where the values hold them all. A few sums are
-// taken one after another. The stride 1, and with it the dilation 1, is handed on as a number, so that its loops are compiled by themselves.
+// The sum at x takes tap after tap the values at x * stride, x * stride + dilation, .., each with its weight, where the values hold them all. The stride 1, and
+// with it the dilation 1, is handed on as a number, so that its loops are compiled by themselves.
 pub fn add_taps(sums: &mut [f32], values: &[f32], weights: &[f32], stride: usize, dilation: usize)
     ensures { Summed (across values.now weights.now stride dilation) (length weights.now) (held (length sums.old) (length values.now) (length weights.now) stride dilation) sums.old sums.new }
 {
@@ -106,21 +122,15 @@ pub fn add_taps(sums: &mut [f32], values: &[f32], weights: &[f32], stride: usize
         stride,
         dilation,
     };
-    let n = row.held(sums.len());
-    let held = &mut sums[..n];
-    if n < 5 {
-        row.add_each(held);
-        return;
-    }
     match (stride, dilation) {
         (1, 1) => Under {
             stride: 1,
             dilation: 1,
             ..row
         }
-        .add_all(held),
-        (1, _) => Under { stride: 1, ..row }.add_all(held),
-        _ => row.add_all(held),
+        .add(sums),
+        (1, _) => Under { stride: 1, ..row }.add(sums),
+        _ => row.add(sums),
     }
 }
 

@@ -15,7 +15,7 @@ pub overflow_add-pairs : goal.overflow_add-pairs
 overflow_add-pairs c =
     let l = c.loop-p in
     let s = c.args.s in
-    let k = exactly_count c.taps_inside-pairs.ensures in
+    let k = exactly_count c.taps_inside-inside.ensures in
     omega (
       arith,
       l.invariant,
@@ -28,7 +28,7 @@ overflow_add-pairs c =
 pub loop-p-preserved : goal.loop-p-preserved
 loop-p-preserved c =
     let l = c.loop-p in
-    rw (add-one l.p) (ap₂ (λ a b. a + b) l.invariant (sym (exactly_count c.taps_inside-pairs.ensures)) ∙ sym (sum_more l.p _))
+    rw (add-one l.p) (ap₂ (λ a b. a + b) l.invariant (sym (exactly_count c.taps_inside-inside.ensures)) ∙ sym (sum_more l.p _))
 
 pub returns : goal.returns
 unfolding pairs_inside
