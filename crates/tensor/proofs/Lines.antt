@@ -8,7 +8,7 @@ use native.Mathlib.Omega.{arith}
 use lib.ListN.{length, take, drop, length-append, length-drop}
 use lib.Seq.{take_at, length-take-le}
 use Rattle.tensor.specs.Table.{tabulate}
-use Rattle.tensor.proofs.Table.{tabulate_length, Filled, filled_none}
+use Rattle.tensor.proofs.Table.{tabulate_length, Filled, filled_none, part_back}
 use Rattle.layer.proofs.Places.{part_within, place_div, div_within}
 
 pub line_start : (line : ℕ) {w : ℕ} → 1 ≤ w → line * w / w ≡ line
@@ -71,8 +71,8 @@ module _ {A : Type 0} where
   pub rows_more : (w : ℕ) (f : ℕ → A) (line : ℕ) {n : ℕ} {l ys : List A} → Filled f n l (line * w) → ys ≡ tabulate (λ x. f (line * w + x)) w → line * w + w ≤ length l
       → Filled f n (take (line * w) l ++ (ys ++ drop (line * w + w - line * w) (drop (line * w) l))) ((line + 1) * w)
   rows_more w f line {n} {l} {ys} i h m =
+      let e : line * w + w - line * w ≡ w = omega arith in
       let rest = drop (line * w + w - line * w) (drop (line * w) l) in
-      let k : length (take (line * w) l ++ (ys ++ rest)) ≡ length l =
-          simp (length-append, length-drop) (omega (arith, length-take-le (line * w) l (omega arith), ap length h, tabulate_length (λ x. f (line * w + x)) w)) in
+      let k : length (take (line * w) l ++ (ys ++ rest)) ≡ length l = rw e (part_back l ys (line * w) w m (ap length h ∙ tabulate_length (λ x. f (line * w + x)) w)) in
       let r = lines_more w f line rest (refl, i) h k m in
       rw (← r.0) r.1
