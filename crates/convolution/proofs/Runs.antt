@@ -13,7 +13,6 @@ use Rattle.sizes.specs.declared.Span.{Span}
 use Rattle.sizes.specs.Size.{ceil_div}
 use Rattle.sizes.proofs.Division.{lt_ceil}
 use Rattle.taps.specs.declared.Taps.{Taps}
-use Rattle.taps.specs.Taps as tap
 use Rattle.taps.specs.Taps.{tap_inside, position_of, Exactly}
 use Rattle.taps.proofs.Exact.{exactly_in, exactly_end, exactly_before, exactly_behind, exactly_none, position_within, position_begin}
 use Rattle.tensor.specs.Table.{read}
@@ -153,10 +152,6 @@ outputs_within x Whole n k = omega (arith, k.all)
 
 pub columns_within : (x : Span) (c : Columns) {n j : ℕ} → ColumnsInside x c n → j < n → first_output c + j < x.out
 columns_within x c {n} k l = omega (arith, outputs_within x c n k.part)
-
--- positions that are alike, as outputs from the first of them on
-pub alike_columns : (x : Span) (p : ℕ) (taps : Taps) {end n : ℕ} → tap.Alike x p end taps.first taps.count → p + n ≤ end → p + n ≤ x.out → 1 ≤ n → AlikeInside x p taps n
-alike_columns x p taps a l o m = record { some = m; outputs = o; alike = λ j q. a.alike (p + j) (omega arith) (omega arith) }
 
 -- outputs that are alike, with some tap inside the input
 pub alike_in : (x : Span) (c : Columns) {output : ℕ} {taps : Taps} {n : ℕ} → ColumnsInside x c n → c ≡ Alike output taps → AlikeInside x output taps n × (1 ≤ taps.count)

@@ -8,8 +8,8 @@ use native.Mathlib.Decide.{dec_lt}
 use native.Mathlib.Omega.{arith}
 use borrow.Author.Tests.{leb-true, leb-false, eqb-true, lt-ltb, le-ltb, le-leb, lt-leb}
 use lib.Dec.{leb, ltb, eqb}
-use lib.ListN.{length, take, drop, length-append, length-drop}
-use lib.Seq.{get_or-drop, take_all, length-take-le}
+use lib.ListN.{length, take, drop, length-drop}
+use lib.Seq.{get_or-drop, take_all}
 use lib.Ieee.{Float, nan}
 use Rattle.layer.proofs.Tests.{or_other, or_neither}
 use Rattle.sizes.specs.Size.{ceil_div}
