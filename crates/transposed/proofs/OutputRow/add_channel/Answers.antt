@@ -1,7 +1,7 @@
 -- One turn is one kernel row more for each sum.
 use native.Mathlib.Nat.{zero-mul}
 use Rattle.rows.proofs.Rows.{summed_start, summed_row}
-use Rattle.transposed.proofs.Tensors.add_channel.Goals as goal
+use Rattle.transposed.proofs.OutputRow.add_channel.Goals as goal
 
 pub loop-k-init : goal.loop-k-init
 loop-k-init c = rw zero-mul (summed_start _ _ _)
