@@ -1,5 +1,5 @@
 -- Rows of outputs: row number `line` of all rows begins with output number line · OX.
-use mathlib.Core.Path.{◌≡◌, refl, ap, ◌∙◌}
+use mathlib.Core.Path.{◌≡◌, refl, ap}
 use mathlib.Core.List.{List}
 use Prim.Native.Nat.{ℕ, ◌+◌, ◌*◌, ◌<◌}
 use native.Mathlib.Omega.{arith}
@@ -7,11 +7,8 @@ use lib.Dec.{T}
 use lib.ListN.{length}
 use lib.Ieee.{Float}
 use Rattle.shape.specs.declared.Shape.{Shape}
-use Rattle.shape.specs.Facts.{Sound}
-use Rattle.shape.specs.Volumes.{out_rows}
 use Rattle.tensor.specs.Table.{read, plus_zero, tabulate}
 use Rattle.tensor.proofs.Table.{tabulate_same}
-use Rattle.tensor.proofs.Lines.{LineRoom, line_room}
 use Rattle.sums.specs.declared.Profile.TheVariants.{Running}
 use Rattle.sums.specs.Taps.{Place, Factors, pair, tap_at, add_tap, sum_from, output_of}
 use lib.Ieee.Scale.{finite}
@@ -21,10 +18,6 @@ use Rattle.rows.specs.Rows.{Summed}
 use Rattle.rows.proofs.Rows.{line_filled}
 use Rattle.call.specs.Fitting.{Fitting}
 use Rattle.call.proofs.Planes.{weights_pos}
-
--- a row that begins inside the output
-pub output_room : (s : Shape) {line j len : ℕ} → Sound s → len ≡ s.outputs → j ≡ line * s.x.out → j < len → LineRoom s.x.out line j len
-output_room s h n e l = line_room (s.n * s.channels * out_rows s) (n ∙ h.outputs_is) h.x.out_1 e l
 
 -- the kernel has a first weight, and it is finite
 pub kernel_pos : (s : Shape) (input kernel : List Float) → Fitting s input kernel → 0 < length kernel

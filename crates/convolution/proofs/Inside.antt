@@ -1,11 +1,12 @@
 -- The taps of a line's outputs by channel, depth, row and column: what each has for the sum over the taps inside the input.
-use Rattle.std.specs.Prelude.{None, Some}
-use mathlib.Core.Path.{◌≡◌, refl, sym, ap, ap₂, ◌∙◌}
+use mathlib.Core.Path.{◌≡◌, sym, ap, ap₂, ◌∙◌}
 use mathlib.Core.List.{List}
-use mathlib.Core.Bool.{Bool, true, false}
-use Prim.Native.Nat.{ℕ, ◌+◌, ◌*◌, ◌≤◌, ◌<◌}
+use mathlib.Core.Bool.{true, false, false≢true}
+use Prim.Native.Nat.{ℕ, ◌+◌, ◌*◌, ◌<◌}
 use native.Mathlib.Omega.{arith}
+use borrow.Author.Tests.{eqb-true}
 use lib.Ieee.{Float}
+use Rattle.taps.specs.declared.Tap.TheVariants.{Outside, At}
 use Rattle.taps.specs.Taps.{tap_inside, position_of}
 use Rattle.taps.proofs.Exact.{exactly_none, forward_at, forward_outside, both_outer, both_inner, both_at}
 use Rattle.shape.specs.declared.Shape.{Shape}
@@ -19,15 +20,16 @@ use Rattle.rows.proofs.Ranges.{volume_none}
 use Rattle.call.proofs.Planes.{line_flat, taps_are}
 use Rattle.places.proofs.Taps.{volume_is, tap_number, lies, place_at, placed_pair, placed_none}
 use Rattle.places.specs.Taps.{inside_taps}
-use Rattle.convolution.specs.Inside.{LineOf, line_taps, row_number, RowInside, AlikeInside, WholeRow, PartInside}
+use Rattle.convolution.specs.Inside.{LineOf, line_taps, row_number, RowInside, first_output, none_inside, PartInside}
 use Rattle.convolution.specs.declared.Line.{Line}
 use Rattle.convolution.specs.declared.KernelRow.{KernelRow}
 use Rattle.convolution.specs.declared.Columns.{Columns}
+use Rattle.convolution.specs.declared.Columns.TheVariants.{Alike, Whole}
 
 module _ (s : Shape) (h : Grouped s) (input kernel : List Float) (f : Line) (g : LineOf s f) where
   -- nothing where it lies outside along one axis
   module _ (i : ℕ) {p a b k : ℕ} (hp : p < s.x.out) (ha : a < s.z.kernel) (hb : b < s.y.kernel) (hk : k < s.x.kernel) where
-    none_at : lies s h f.number i hp ha hb hk ≡ None → inside_taps s input kernel (f.number * s.x.out + p) (tap_number s i a b k) ≡ none
+    none_at : lies s h f.number i hp ha hb hk ≡ Outside → inside_taps s input kernel (f.number * s.x.out + p) (tap_number s i a b k) ≡ none
     none_at e = rw (place_at s h f.number i hp ha hb hk) (placed_none input kernel _ _ _ e)
 
     pub depth_outside : tap_inside s.z f.depth a ≡ false → inside_taps s input kernel (f.number * s.x.out + p) (tap_number s i a b k) ≡ none
@@ -49,7 +51,7 @@ module _ (s : Shape) (h : Grouped s) (input kernel : List Float) (f : Line) (g :
       let x = position_of s.x p k in
       let q = (z * s.y.input + y) * s.x.input + x in
       let t = lies s h f.number r.channel hp i.depth.depth_below i.row_below hk in
-      let at-q : t ≡ Some q = rw (← g.depth_is, ← g.row_is, forward_at s.z f.depth r.depth i.depth.depth_inside, forward_at s.y f.row r.row i.row_inside, forward_at s.x p k e, both_at, both_at) in
+      let at-q : t ≡ At q = rw (← g.depth_is, ← g.row_is, forward_at s.z f.depth r.depth i.depth.depth_inside, forward_at s.y f.row r.row i.row_inside, forward_at s.x p k e, both_at, both_at) in
       ap (λ (w : Place). tap_at input kernel (inside_only w)) (place_at s h f.number r.channel hp i.depth.depth_below i.row_below hk)
       ∙ placed_pair input kernel _ _ q t at-q
       ∙ ap₂ (λ (n m : ℕ). pair (read input n) (read kernel m))
@@ -69,12 +71,10 @@ pub line_away : (s : Shape) → Grouped s → (input kernel : List Float) (line 
 line_away s h input kernel line p away = summed_away (λ x t u v. all_none s h (line_taps s input kernel line p x) (λ i a b k la lb lk. away x i a b k u la lb lk) t v)
 
 -- a part of a line that has no tap along x inside the input
-pub part_away : (s : Shape) (h : Grouped s) (input kernel : List Float) (f : Line) (g : LineOf s f) (c : Columns) {n : ℕ} {l : List Float} → PartInside s.x c n → c.count ≡ 0
-    → Summed (line_taps s input kernel f.number c.output) s.taps n l l
-part_away s h input kernel f g c {n} k z =
-    line_away s h input kernel f.number c.output (λ x i a b t p la lb lt.
-    column_outside s h input kernel f g i (omega (arith, k.outputs)) la lb lt (exactly_none (rw z at ((alike_of c.alike k.run k.row).alike x p)) lt))
-  where
-    alike_of : (b : Bool) → (b ≡ true → AlikeInside s.x c n) → (b ≡ false → WholeRow s.x c n × (1 ≤ c.count)) → AlikeInside s.x c n
-    alike_of true r w = r refl
-    alike_of false r w = absurd (omega (arith, (w refl).1))
+pub part_away : (s : Shape) (h : Grouped s) (input kernel : List Float) (f : Line) (g : LineOf s f) (c : Columns) {n : ℕ} {l : List Float} → PartInside s.x c n → none_inside c ≡ true
+    → Summed (line_taps s input kernel f.number (first_output c)) s.taps n l l
+part_away s h input kernel f g (Alike output taps) {n} k z =
+    let e = eqb-true taps.count 0 z in
+    line_away s h input kernel f.number output (λ x i a b t p la lb lt.
+    column_outside s h input kernel f g i (omega (arith, k.outputs)) la lb lt (exactly_none (rw e at (k.alike x p)) lt))
+part_away s h input kernel f g Whole {n} k z = absurd (false≢true z)

@@ -12,7 +12,7 @@ use Rattle.taps.proofs.Exact.{position_within}
 use Rattle.shape.specs.declared.Shape.{Shape}
 use Rattle.shape.specs.Volumes.{kernel_volume}
 use Rattle.tensor.specs.Table.{read}
-use Rattle.tensor.proofs.Table.{part_length, part_read}
+use Rattle.tensor.proofs.Table.{part_length, part_read, part_back}
 use Rattle.sums.specs.Taps.{pair}
 use Rattle.rows.specs.Rows.{Summed}
 use Rattle.rows.proofs.Rows.{summed_part, summed_same}
@@ -58,10 +58,11 @@ module _ (s : Shape) (input kernel : List Float) (h : Fitting s input kernel) (f
 -- ---- a line by parts: those from a up to b, lent and handed back
 pub line_part : (s : Shape) (input kernel : List Float) (line a b : ℕ) {p : ℕ} {out l ys : List Float} → p ≡ a → a ≤ b → b ≤ length out → Summed (line_taps s input kernel line 0) s.taps a out l
     → Summed (line_taps s input kernel line p) s.taps (length (take (b - a) (drop a l))) (take (b - a) (drop a l)) ys
-    → length (take a l ++ (ys ++ drop (b - a) (drop a l))) ≡ length l
     → Summed (line_taps s input kernel line 0) s.taps b out (take a l ++ (ys ++ drop (b - a) (drop a l)))
-line_part s input kernel line a b {p = p} {l = l} z h m i j e =
+line_part s input kernel line a b {p = p} {l = l} {ys = ys} z h m i j =
     let w : a + (b - a) ≡ b = omega arith in
+    let n = part_length l a (b - a) (omega (arith, i.kept)) in
+    let e = part_back l ys a (b - a) (omega (arith, i.kept)) (j.kept ∙ n) in
     rw w at (summed_part _ _ a (b - a) i (omega arith)
-    (summed_same (rw (part_length l a (b - a) (omega (arith, i.kept))) at j) (λ x t u v.
+    (summed_same (rw n at j) (λ x t u v.
     ap (λ (n : ℕ). inside_taps s input kernel (line * s.x.out + n) t) (ap (λ (n : ℕ). n + x) z ∙ sym (zero-add (a + x))))) e)

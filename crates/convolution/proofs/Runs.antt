@@ -7,20 +7,23 @@ use Prim.Native.Nat.{ℕ, ◌+◌, ◌-◌, ◌*◌, ◌≤◌, ◌<◌, min}
 use native.Mathlib.Nat.{add-zero, add-mul, mul-one, add-sub_cancel_left}
 use native.Mathlib.Omega.{arith}
 use lib.ListN.{length, take, drop}
+use borrow.Author.Tests.{eqb-false}
 use lib.Ieee.{Float}
 use Rattle.sizes.specs.declared.Span.{Span}
 use Rattle.sizes.specs.Size.{ceil_div}
 use Rattle.sizes.proofs.Division.{lt_ceil}
-use Rattle.taps.specs.Taps.{tap_inside, position_of, Exactly, Alike}
+use Rattle.taps.specs.declared.Taps.{Taps}
+use Rattle.taps.specs.Taps.{tap_inside, position_of, Exactly}
 use Rattle.taps.proofs.Exact.{exactly_in, exactly_end, exactly_before, exactly_behind, exactly_none, position_within, position_begin}
 use Rattle.tensor.specs.Table.{read}
-use Rattle.tensor.proofs.Table.{part_length, part_read}
+use Rattle.tensor.proofs.Table.{part_length, part_read, part_back}
 use Rattle.sums.specs.Taps.{none, pair}
 use Rattle.rows.specs.Rows.{Summed, across, held}
 use Rattle.rows.proofs.Rows.{summed_none, summed_part, summed_skip, summed_away, summed_same}
 use Rattle.rows.proofs.Ranges.{range_taps}
-use Rattle.convolution.specs.Inside.{span_taps, RowFits, BlockInside, AlikeInside, ColumnsInside}
+use Rattle.convolution.specs.Inside.{span_taps, RowFits, BlockInside, AlikeInside, first_output, PartInside, ColumnsInside}
 use Rattle.convolution.specs.declared.Columns.{Columns}
+use Rattle.convolution.specs.declared.Columns.TheVariants.{Alike, Whole}
 
 -- a tap by its test
 module _ (x : Span) (row weights : List Float) (p t : ℕ) where
@@ -33,68 +36,68 @@ module _ (x : Span) (row weights : List Float) (p t : ℕ) where
 -- ---- outputs and taps that all lie inside
 
 -- the first tap of the first output
-pub block_first : (x : Span) (c : Columns) {n : ℕ} → BlockInside x c n → tap_inside x c.output c.first ≡ true
-block_first x c k = rw (add-zero c.output, add-zero c.first) at (k.inside 0 0 k.some k.some_taps)
+pub block_first : (x : Span) (output : ℕ) (taps : Taps) {n : ℕ} → BlockInside x output taps n → tap_inside x output taps.first ≡ true
+block_first x output taps k = rw (add-zero output, add-zero taps.first) at (k.inside 0 0 k.some k.some_taps)
 
 -- tap t of output j: its column, counted from that of the first tap of the first output
-module _ (x : Span) (c : Columns) {n : ℕ} (k : BlockInside x c n) {j t : ℕ} (p : j < n) (q : t < c.count) where
-  pub block_column : position_of x (c.output + j) (c.first + t) ≡ position_of x c.output c.first + (j * x.stride + t * x.dilation)
-  block_column = omega (arith, position_begin x c.output c.first (block_first x c k), add-mul c.output j x.stride, add-mul c.first t x.dilation)
+module _ (x : Span) (output : ℕ) (taps : Taps) {n : ℕ} (k : BlockInside x output taps n) {j t : ℕ} (p : j < n) (q : t < taps.count) where
+  pub block_column : position_of x (output + j) (taps.first + t) ≡ position_of x output taps.first + (j * x.stride + t * x.dilation)
+  block_column = omega (arith, position_begin x output taps.first (block_first x output taps k), add-mul output j x.stride, add-mul taps.first t x.dilation)
 
-  pub block_within : position_of x c.output c.first + (j * x.stride + t * x.dilation) < x.input
-  block_within = omega (arith, block_column, position_within x (c.output + j) (c.first + t) (k.inside j t p q))
+  pub block_within : position_of x output taps.first + (j * x.stride + t * x.dilation) < x.input
+  block_within = omega (arith, block_column, position_within x (output + j) (taps.first + t) (k.inside j t p q))
 
 -- what `add_taps` adds to them
-module _ (x : Span) (row weights : List Float) (h : RowFits x (length row) (length weights)) (c : Columns) (out : List Float) (k : BlockInside x c (length out)) where
+module _ (x : Span) (row weights : List Float) (h : RowFits x (length row) (length weights)) (output : ℕ) (taps : Taps) (out : List Float) (k : BlockInside x output taps (length out)) where
   abbrev from : ℕ
-  from = position_of x c.output c.first
+  from = position_of x output taps.first
 
   from_within : from < length row
-  from_within = omega (arith, h.row_is, position_within x c.output c.first (block_first x c k))
+  from_within = omega (arith, h.row_is, position_within x output taps.first (block_first x output taps k))
 
   abbrev values : List Float
   values = take (length row - from) (drop from row)
 
   abbrev part : List Float
-  part = take (c.first + c.count - c.first) (drop c.first weights)
+  part = take (taps.first + taps.count - taps.first) (drop taps.first weights)
 
   values_length : length values ≡ length row - from
   values_length = part_length row from (length row - from) (omega (arith, from_within))
 
-  part_is : length part ≡ c.count
-  part_is = rw (add-sub_cancel_left c.first c.count) (part_length weights c.first c.count (omega (arith, h.weights_are, k.taps)))
+  part_is : length part ≡ taps.count
+  part_is = rw (add-sub_cancel_left taps.first taps.count) (part_length weights taps.first taps.count (omega (arith, h.weights_are, k.end)))
 
   -- every sum has all its taps among the values
   all_held : held (length out) (length values) (length part) x.stride x.dilation ≡ length out
   all_held =
       let n = length out in
-      let d = length row - from - (c.count - 1) * x.dilation in
-      let l = (lt_ceil d (n - 1) h.limits.stride_1).1 (omega (arith, h.row_is, block_within x c k {j = n - 1} {t = c.count - 1} (omega (arith, k.some)) (omega (arith, k.some_taps)))) in
+      let d = length row - from - (taps.count - 1) * x.dilation in
+      let l = (lt_ceil d (n - 1) h.limits.stride_1).1 (omega (arith, h.row_is, block_within x output taps k {j = n - 1} {t = taps.count - 1} (omega (arith, k.some)) (omega (arith, k.some_taps)))) in
       rw (values_length, part_is) (let e : min n (ceil_div d x.stride) ≡ n = omega (arith, k.some) in e)
 
   pub block_summed : {o : List Float} → Summed (across values part x.stride x.dilation) (length part) (held (length out) (length values) (length part) x.stride x.dilation) out o
-      → Summed (λ j t. span_taps x row weights (c.output + j) (c.first + t)) c.count (length out) out o
+      → Summed (λ j t. span_taps x row weights (output + j) (taps.first + t)) taps.count (length out) out o
   block_summed a =
       summed_same (rw (all_held, part_is) at a) (λ j t p q.
       ap₂ pair
-      (part_read row from (length row - from) (j * x.stride + t * x.dilation) (omega (arith, h.row_is, block_within x c k p q)) ∙ ap (read row) (sym (block_column x c k p q)))
-      (rw (add-sub_cancel_left c.first c.count) (part_read weights c.first c.count t q))
-      ∙ sym (span_inside x row weights (c.output + j) (c.first + t) (k.inside j t p q)))
+      (part_read row from (length row - from) (j * x.stride + t * x.dilation) (omega (arith, h.row_is, block_within x output taps k p q)) ∙ ap (read row) (sym (block_column x output taps k p q)))
+      (rw (add-sub_cancel_left taps.first taps.count) (part_read weights taps.first taps.count t q))
+      ∙ sym (span_inside x row weights (output + j) (taps.first + t) (k.inside j t p q)))
 
 -- ---- outputs that are alike
 
-pub alike_block : (x : Span) (c : Columns) {n : ℕ} → AlikeInside x c n → 1 ≤ c.count → BlockInside x c n
-alike_block x c k m =
+pub alike_block : (x : Span) (output : ℕ) (taps : Taps) {n : ℕ} → AlikeInside x output taps n → 1 ≤ taps.count → BlockInside x output taps n
+alike_block x output taps k m =
     record {
       some = k.some;
       some_taps = m;
-      taps = exactly_end (k.alike 0 k.some) m;
-      inside = λ j t p q. (exactly_in (k.alike j p) {k = c.first + t} (omega arith) (omega arith)).1;
+      end = exactly_end (k.alike 0 k.some) m;
+      inside = λ j t p q. (exactly_in (k.alike j p) {k = taps.first + t} (omega arith) (omega arith)).1;
     }
 
-pub alike_summed : (x : Span) (row weights : List Float) (c : Columns) {n : ℕ} {out o : List Float} → AlikeInside x c n
-    → Summed (λ j t. span_taps x row weights (c.output + j) (c.first + t)) c.count n out o → Summed (λ j. span_taps x row weights (c.output + j)) x.kernel n out o
-alike_summed x row weights c k a = range_taps (λ j. span_taps x row weights (c.output + j)) k.alike (λ j t p q e. span_outside x row weights (c.output + j) t e) a
+pub alike_summed : (x : Span) (row weights : List Float) (output : ℕ) (taps : Taps) {n : ℕ} {out o : List Float} → AlikeInside x output taps n
+    → Summed (λ j t. span_taps x row weights (output + j) (taps.first + t)) taps.count n out o → Summed (λ j. span_taps x row weights (output + j)) x.kernel n out o
+alike_summed x row weights output taps k a = range_taps (λ j. span_taps x row weights (output + j)) k.alike (λ j t p q e. span_outside x row weights (output + j) t e) a
 
 -- ---- one tap, for all outputs of a row: those that it reaches are lent and handed back
 module _ (x : Span) (row weights : List Float) (h : RowFits x (length row) (length weights)) (k : ℕ) {first count : ℕ} (lk : k < x.kernel) (e : Exactly x.out (λ p. tap_inside x p k) first count) where
@@ -123,9 +126,8 @@ module _ (x : Span) (row weights : List Float) (h : RowFits x (length row) (leng
   pub tap_summed : {l ys : List Float} → x.stride ≡ 1 → length l ≡ x.out → 1 ≤ count
       → let part = take (first + count - first) (drop first l) in let values = take (position_of x first k + count - position_of x first k) (drop (position_of x first k) row) in
       Summed (λ j t. pair (read values j) (read weights k)) 1 (min (length part) (length values)) part ys
-      → length (take first l ++ (ys ++ drop (first + count - first) (drop first l))) ≡ length l
       → Summed (λ j t. span_taps x row weights j (k + t)) 1 (length l) l (take first l ++ (ys ++ drop (first + count - first) (drop first l)))
-  tap_summed {l} {ys} s n m a b =
+  tap_summed {l} {ys} s n m a =
       let f = tap_part s n m in
       let q = position_of x first k in
       let c = add-sub_cancel_left first count in
@@ -139,14 +141,20 @@ module _ (x : Span) (row weights : List Float) (h : RowFits x (length row) (leng
       let z : q + j ≡ position_of x (first + j) k =
       omega (arith, position_begin x first k (exactly_in e {k = first} (omega arith) (omega arith)).1, add-mul first j x.stride, ap (λ (v : ℕ). j * v) s ∙ mul-one j) in
       ap (λ (v : Float). pair v (read weights k)) (part_read row q count j p ∙ ap (read row) z) ∙ sym (span_inside x row weights (first + j) k i) ∙ ap (span_taps x row weights (first + j)) (sym y)) in
-      rw c (summed_skip _ 1 (omega (arith, f.end)) (summed_part _ 1 first count before (omega (arith, f.end)) middle (rw c at b)) (λ j t p r u. skip j u (exactly_behind e (omega (arith, n)) p)))
+      rw c (summed_skip _ 1 (omega (arith, f.end)) (summed_part _ 1 first count before (omega (arith, f.end)) middle (part_back l ys first count f.end (middle.kept ∙ part_length l first count f.end))) (λ j t p r u. skip j u (exactly_behind e (omega (arith, n)) p)))
 
 -- ---- parts of a row
 
 -- every one of some outputs is one of the row
-pub columns_within : (x : Span) (c : Columns) {n j : ℕ} → ColumnsInside x c n → j < n → c.output + j < x.out
-columns_within x c k l = omega (arith, k.part.outputs)
+pub outputs_within : (x : Span) (c : Columns) (n : ℕ) → PartInside x c n → first_output c + n ≤ x.out
+outputs_within x (Alike output taps) n k = k.outputs
+outputs_within x Whole n k = omega (arith, k.all)
 
--- positions that are alike, as outputs from the first of them on
-pub alike_columns : (x : Span) (c : Columns) {p end n : ℕ} → Alike x p end c.first c.count → c.output ≡ p → p + n ≤ end → 1 ≤ n → AlikeInside x c n
-alike_columns x c a e l m = record { some = m; alike = λ j q. rw e (a.alike (_ + j) (omega arith) (omega arith)) }
+pub columns_within : (x : Span) (c : Columns) {n j : ℕ} → ColumnsInside x c n → j < n → first_output c + j < x.out
+columns_within x c {n} k l = omega (arith, outputs_within x c n k.part)
+
+-- outputs that are alike, with some tap inside the input
+pub alike_in : (x : Span) (c : Columns) {output : ℕ} {taps : Taps} {n : ℕ} → ColumnsInside x c n → c ≡ Alike output taps → AlikeInside x output taps n × (1 ≤ taps.count)
+alike_in x c {output} {taps} k e =
+    let z = eqb-false taps.count 0 (rw e at k.some_taps) in
+    (rw e at k.part, omega arith)

@@ -1,8 +1,9 @@
 -- For the code, and no part of what is promised: the taps of a row of outputs that lie inside the input, along each axis a range of them. A line is a row of an
 -- output plane, numbered through all planes.
-use Rattle.std.specs.Prelude.{◌≡◌, true, false, cond, List, ℕ, ◌+◌, ◌-◌, ◌*◌, ◌/◌, ◌%◌, ◌≤◌, ◌<◌, take, drop, Float}
+use Rattle.std.specs.Prelude.{◌≡◌, Bool, true, false, cond, eqb, List, ℕ, ◌+◌, ◌-◌, ◌*◌, ◌/◌, ◌%◌, ◌≤◌, ◌<◌, take, drop, Float}
 use Rattle.sizes.specs.declared.Span.{Span}
 use Rattle.sizes.specs.Bounds.{SpanLimits}
+use Rattle.taps.specs.declared.Taps.{Taps}
 use Rattle.taps.specs.Taps.{tap_inside, position_of, Exactly}
 use Rattle.shape.specs.declared.Shape.{Shape}
 use Rattle.shape.specs.Volumes.{input_rows, out_rows, kernel_volume}
@@ -12,6 +13,7 @@ use Rattle.places.specs.Taps.{inside_taps, plane_taps}
 use Rattle.convolution.specs.declared.Line.{Line}
 use Rattle.convolution.specs.declared.KernelRow.{KernelRow}
 use Rattle.convolution.specs.declared.Columns.{Columns}
+use Rattle.convolution.specs.declared.Columns.TheVariants.{Alike, Whole}
 use Rattle.convolution.specs.declared.Part.{Part}
 
 -- the taps of the outputs of a line from number p on
@@ -75,38 +77,45 @@ pub record RowFits (x : Span) (row weights : ℕ) : Type 0 where
   pub row_is : row ≡ x.input
   pub weights_are : weights ≡ x.kernel
 
--- some outputs, n of them, and some taps that all lie inside the input
-pub record BlockInside (x : Span) (c : Columns) (n : ℕ) : Type 0 where
+-- some outputs, n of them from number `output` on, and some taps that all lie inside
+pub record BlockInside (x : Span) (output : ℕ) (taps : Taps) (n : ℕ) : Type 0 where
   pub some : 1 ≤ n
-  pub some_taps : 1 ≤ c.count
-  pub taps : c.first + c.count ≤ x.kernel
-  pub inside : (j t : ℕ) → j < n → t < c.count → tap_inside x (c.output + j) (c.first + t) ≡ true
+  pub some_taps : 1 ≤ taps.count
+  pub end : taps.first + taps.count ≤ x.kernel
+  pub inside : (j t : ℕ) → j < n → t < taps.count → tap_inside x (output + j) (taps.first + t) ≡ true
 
 -- outputs that have exactly these taps inside the input
-pub record AlikeInside (x : Span) (c : Columns) (n : ℕ) : Type 0 where
+pub record AlikeInside (x : Span) (output : ℕ) (taps : Taps) (n : ℕ) : Type 0 where
   pub some : 1 ≤ n
-  pub alike : (j : ℕ) → j < n → Exactly x.kernel (tap_inside x (c.output + j)) c.first c.count
+  pub outputs : output + n ≤ x.out
+  pub alike : (j : ℕ) → j < n → Exactly x.kernel (tap_inside x (output + j)) taps.first taps.count
 
 -- all outputs of a row, with a stride of 1
-pub record WholeRow (x : Span) (c : Columns) (n : ℕ) : Type 0 where
+pub record WholeRow (x : Span) (n : ℕ) : Type 0 where
   pub stride : x.stride ≡ 1
-  pub from : c.output ≡ 0
   pub all : n ≡ x.out
 
--- such outputs, by cases
-pub record PartInside (x : Span) (c : Columns) (n : ℕ) : Type 0 where
-  pub outputs : c.output + n ≤ x.out
-  pub run : c.alike ≡ true → AlikeInside x c n
-  pub row : c.alike ≡ false → WholeRow x c n × (1 ≤ c.count)
+-- such outputs: the first of them, whether they have no tap inside the input, and what is known of n of them
+abbrev pub first_output : Columns → ℕ
+first_output (Alike output taps) = output
+first_output Whole = 0
+
+abbrev pub none_inside : Columns → Bool
+none_inside (Alike output taps) = eqb taps.count 0
+none_inside Whole = false
+
+abbrev pub PartInside : Span → Columns → ℕ → Type 0
+PartInside x (Alike output taps) n = AlikeInside x output taps n
+PartInside x Whole n = WholeRow x n
 
 -- with some tap inside the input, where they are alike
 pub record ColumnsInside (x : Span) (c : Columns) (n : ℕ) : Type 0 where
   pub part : PartInside x c n
-  pub some_taps : 1 ≤ c.count
+  pub some_taps : none_inside c ≡ false
 
--- the outputs that are taken at a time from number p on, in a row of n
-pub record PartOf (x : Span) (p n : ℕ) (r : Part) : Type 0 where
-  pub from : r.columns.output ≡ p
+-- the outputs that are taken at a time from number p on
+pub record PartOf (x : Span) (p : ℕ) (r : Part) : Type 0 where
+  pub from : first_output r.columns ≡ p
   pub some : p < r.end
-  pub most : r.end ≤ n
-  pub inside : n ≡ x.out → PartInside x r.columns (r.end - p)
+  pub most : r.end ≤ x.out
+  pub inside : PartInside x r.columns (r.end - p)

@@ -72,3 +72,7 @@ part_length l start n h = length-take-le n (drop start l) (rw length-drop (omega
 
 pub part_read : (l : List Float) (start n k : ℕ) → k < n → read (take n (drop start l)) k ≡ read l (start + k)
 part_read l start n k h = get_or-take n (drop start l) k nan h ∙ get_or-drop start l k nan
+
+-- a list that has a part of it handed back keeps its length
+pub part_back : {A : Type 0} (l ys : List A) (start n : ℕ) → start + n ≤ length l → length ys ≡ n → length (take start l ++ (ys ++ drop n (drop start l))) ≡ length l
+part_back l ys start n h e = simp (length-append, length-drop) (omega (arith, length-take-le start l (omega arith)))

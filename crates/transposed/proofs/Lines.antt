@@ -9,8 +9,8 @@ use native.Mathlib.Decide.{dec_lt}
 use native.Mathlib.Omega.{arith}
 use borrow.Author.Tests.{leb-true, leb-false, eqb-true, lt-ltb, le-ltb, le-leb, lt-leb}
 use lib.Dec.{leb, ltb, eqb}
-use lib.ListN.{length, take, drop, length-append, length-drop}
-use lib.Seq.{get_or-drop, take_all, length-take-le}
+use lib.ListN.{length, take, drop, length-drop}
+use lib.Seq.{get_or-drop, take_all}
 use lib.Ieee.{Float, nan}
 use Rattle.layer.proofs.Tests.{or_other, or_neither}
 use Rattle.sizes.specs.Size.{ceil_div}
@@ -18,15 +18,11 @@ use Rattle.taps.specs.Joins.{position_by, reach_of}
 use Rattle.sizes.proofs.Division.{ceil_le, ceil_self}
 use Rattle.taps.proofs.Joins.{reach_finds, at_finds}
 use Rattle.tensor.specs.Table.{read}
-use Rattle.tensor.proofs.Table.{part_length}
+use Rattle.tensor.proofs.Table.{part_length, part_back}
 use Rattle.sums.specs.Taps.{Factors, none, pair}
 use Rattle.rows.specs.Rows.{Summed, spread}
 use Rattle.rows.proofs.Rows.{summed_part, summed_away, summed_same, summed_more}
 use Rattle.transposed.specs.Rows.{tap_in, row_tap}
-
--- a list with a part of it handed back keeps its length
-part_back : (l ys : List Float) (a n : ℕ) → a + n ≡ length l → length ys ≡ n → length (take a l ++ (ys ++ drop n (drop a l))) ≡ length l
-part_back l ys a n h e = simp (length-append, length-drop) (omega (arith, length-take-le a l (omega arith)))
 
 -- what is left where neither of the two lengths is too small
 pub both_left : (a b c d : ℕ) → leb a b || leb c d ≡ false → (b ≤ a) × (d ≤ c)
@@ -94,7 +90,7 @@ module _ (row weights : List Float) (begin d stride k : ℕ) {first lo : ℕ} (s
       let z : lo + n ≡ length l = omega arith in
       let j = rw (part_length l lo n (omega arith), take_all (length row - first) (drop first row) (omega (arith, length-drop first row))) at i in
       let m = summed_same {others = λ x t. row_tap row weights (lo + x + begin) d stride (k + t)} j (λ x t p q. let z : t ≡ 0 = omega arith in rw (z, add-zero k) (spread_tap x)) in
-      rw z at (summed_part _ 1 lo n (unreached lo (λ x i p a b m. omega arith)) (omega arith) m (part_back l ys lo n z (i.kept ∙ part_length l lo n (omega arith))))
+      rw z at (summed_part _ 1 lo n (unreached lo (λ x i p a b m. omega arith)) (omega arith) m (part_back l ys lo n (omega arith) (i.kept ∙ part_length l lo n (omega arith))))
 
 -- one tap more for every output of a row
 pub tapped_more : (taps : ℕ → ℕ → Factors) (k : ℕ) {before l o : List Float} → Summed taps k (length before) before l → Summed (λ x j. taps x (k + j)) 1 (length l) l o

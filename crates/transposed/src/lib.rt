@@ -38,6 +38,14 @@ struct Tensors<'a> {
     ghost fitting: { Fitting shape input.now kernel.now },
 }
 
+// A row of outputs with the tensors of its call.
+#[derive(Clone, Copy)]
+struct OutputRow<'a> {
+    tensors: Tensors<'a>,
+    first: FirstTap,
+    ghost within: { Within tensors.shape first },
+}
+
 // Tap k of a kernel row more for each output of a row that it reaches: these stand a stride apart, and the input's elements that it reaches follow one another.
 fn add_tap(out: &mut [f32], row: &[f32], weights: &[f32], x: Span, k: usize)
     requires limits { SpanLimits x }
@@ -94,25 +102,25 @@ fn first_tap(s: Shape, line: usize) -> FirstTap
     }
 }
 
-impl Tensors<'_> {
-    // The taps of kernel row k of channel i more for each output of the row with these first taps.
-    fn add_row(&self, f: FirstTap, i: usize, k: usize, out: &mut [f32])
-        requires within { Within self.now.shape f }
-        requires row { (i < self.now.shape.i) × ((k < kernel_rows self.now.shape) × (length out.old ≡ self.now.shape.x.out)) }
-        ensures { Summed (row_taps self.now.shape self.now.input.now self.now.kernel.now f i k) self.now.shape.x.kernel self.now.shape.x.out out.old out.new }
+impl OutputRow<'_> {
+    // The taps of kernel row k of channel i more for each output of the row.
+    fn add_row(&self, i: usize, k: usize, out: &mut [f32])
+        requires row { (i < self.now.tensors.shape.i) × ((k < kernel_rows self.now.tensors.shape) × (length out.old ≡ self.now.tensors.shape.x.out)) }
+        ensures { Summed (row_taps self.now.tensors.shape self.now.tensors.input.now self.now.tensors.kernel.now self.now.first i k) self.now.tensors.shape.x.kernel self.now.tensors.shape.x.out out.old out.new }
     {
-        let s = self.shape;
+        let s = self.tensors.shape;
+        let f = self.first;
         let tap = row_tap(Direction::Backward, s, f.row, k as u32);
         let Some(y) = tap else {
             return;
         };
         let row = row_of(
-            self.input,
+            self.tensors.input,
             (f.plane + i) * input_rows(s) + y,
             s.x.input as usize,
         );
         let weights = row_of(
-            self.kernel,
+            self.tensors.kernel,
             (f.weight + i * s.o) * kernel_rows(s) + k,
             s.x.kernel as usize,
         );
@@ -120,35 +128,38 @@ impl Tensors<'_> {
     }
 
     // The taps of channel i more, kernel row by kernel row.
-    fn add_channel(&self, f: FirstTap, i: usize, out: &mut [f32])
-        requires within { Within self.now.shape f }
-        requires row { (i < self.now.shape.i) × (length out.old ≡ self.now.shape.x.out) }
-        ensures { Summed (channel_taps self.now.shape self.now.input.now self.now.kernel.now f i) (kernel_rows self.now.shape * self.now.shape.x.kernel) self.now.shape.x.out out.old out.new }
+    fn add_channel(&self, i: usize, out: &mut [f32])
+        requires row { (i < self.now.tensors.shape.i) × (length out.old ≡ self.now.tensors.shape.x.out) }
+        ensures { Summed (channel_taps self.now.tensors.shape self.now.tensors.input.now self.now.tensors.kernel.now self.now.first i) (kernel_rows self.now.tensors.shape * self.now.tensors.shape.x.kernel) self.now.tensors.shape.x.out out.old out.new }
     {
-        for k in 0..kernel_rows(self.shape) {
-            self.add_row(f, i, k, out);
+        for k in 0..kernel_rows(self.tensors.shape) {
+            self.add_row(i, k, out);
         }
     }
 
     // The taps of every channel, channel by channel.
-    fn add_channels(&self, f: FirstTap, out: &mut [f32])
-        requires within { Within self.now.shape f }
-        requires row { length out.old ≡ self.now.shape.x.out }
-        ensures { Summed (line_taps self.now.shape self.now.input.now self.now.kernel.now f) self.now.shape.taps self.now.shape.x.out out.old out.new }
+    fn add_channels(&self, out: &mut [f32])
+        requires row { length out.old ≡ self.now.tensors.shape.x.out }
+        ensures { Summed (line_taps self.now.tensors.shape self.now.tensors.input.now self.now.tensors.kernel.now self.now.first) self.now.tensors.shape.taps self.now.tensors.shape.x.out out.old out.new }
     {
-        for i in 0..self.shape.i {
-            self.add_channel(f, i, out);
+        for i in 0..self.tensors.shape.i {
+            self.add_channel(i, out);
         }
     }
+}
 
+impl Tensors<'_> {
     // The outputs of one row, of number `line` among all rows.
     fn fill_line(&self, line: usize, out: &mut [f32])
         requires out_bound { (line * self.now.shape.x.out + self.now.shape.x.out ≤ self.now.shape.outputs) × (length out.old ≡ self.now.shape.x.out) }
         ensures { out.new ≡ tabulate (λ x. output_of Running (place_of self.now.shape) self.now.shape.taps self.now.input.now self.now.kernel.now (line * self.now.shape.x.out + x)) self.now.shape.x.out }
     {
         start(out, self.kernel[0]);
-        let f = first_tap(self.shape, line);
-        self.add_channels(f, out);
+        let row = OutputRow {
+            tensors: *self,
+            first: first_tap(self.shape, line),
+        };
+        row.add_channels(out);
     }
 
     // Every output, row by row.

@@ -8,15 +8,14 @@ use Rattle.transposed.proofs.Bounds.{first_within}
 use Rattle.transposed.proofs.Places.{place_from_first}
 use Rattle.transposed.proofs.Tensors.fill_line.Goals as goal
 
-pub add_channels-requires-clause-within : goal.add_channels-requires-clause-within
-add_channels-requires-clause-within c =
+pub invariant_of-row : goal.invariant_of-row
+invariant_of-row c =
     let t = c.args.self.now in
-    rw c.first_tap-f.ensures
-    (first_within t.shape c.args.line t.fitting.shape (omega (arith, c.requires.out_bound.0, t.fitting.shape.sound.x.out_1)))
+    record { within = rw c.first_tap.ensures (first_within t.shape c.args.line t.fitting.shape (omega (arith, c.requires.out_bound.0, t.fitting.shape.sound.x.out_1))) }
 
 pub returns : goal.returns
 returns c =
     let t = c.args.self.now in
     let s = t.shape in
     line_sums s _ _ _ _ t.fitting (c.start.ensures ∙ ap (tabulate _) c.requires.out_bound.1) c.add_channels.ensures
-    ∙ line_outputs s (place_of s) _ _ _ c.args.line (λ x t p. rw c.first_tap-f.ensures (place_from_first s c.args.line t c.args.self.now.fitting.shape p))
+    ∙ line_outputs s (place_of s) _ _ _ c.args.line (λ x t p. rw c.first_tap.ensures (place_from_first s c.args.line t c.args.self.now.fitting.shape p))
