@@ -1,4 +1,5 @@
 -- The taps of a line's outputs by channel, depth, row and column: what each has for the sum over the taps inside the input.
+use Rattle.std.specs.Prelude.{None, Some}
 use mathlib.Core.Path.{◌≡◌, sym, ap, ap₂, ◌∙◌}
 use mathlib.Core.List.{List}
 use mathlib.Core.Bool.{true, false, false≢true}
@@ -6,7 +7,6 @@ use Prim.Native.Nat.{ℕ, ◌+◌, ◌*◌, ◌<◌}
 use native.Mathlib.Omega.{arith}
 use borrow.Author.Tests.{eqb-true}
 use lib.Ieee.{Float}
-use Rattle.taps.specs.declared.Tap.TheVariants.{Outside, At}
 use Rattle.taps.specs.Taps.{tap_inside, position_of}
 use Rattle.taps.proofs.Exact.{exactly_none, forward_at, forward_outside, both_outer, both_inner, both_at}
 use Rattle.shape.specs.declared.Shape.{Shape}
@@ -29,7 +29,7 @@ use Rattle.convolution.specs.declared.Columns.TheVariants.{Alike, Whole}
 module _ (s : Shape) (h : Grouped s) (input kernel : List Float) (f : Line) (g : LineOf s f) where
   -- nothing where it lies outside along one axis
   module _ (i : ℕ) {p a b k : ℕ} (hp : p < s.x.out) (ha : a < s.z.kernel) (hb : b < s.y.kernel) (hk : k < s.x.kernel) where
-    none_at : lies s h f.number i hp ha hb hk ≡ Outside → inside_taps s input kernel (f.number * s.x.out + p) (tap_number s i a b k) ≡ none
+    none_at : lies s h f.number i hp ha hb hk ≡ None → inside_taps s input kernel (f.number * s.x.out + p) (tap_number s i a b k) ≡ none
     none_at e = rw (place_at s h f.number i hp ha hb hk) (placed_none input kernel _ _ _ e)
 
     pub depth_outside : tap_inside s.z f.depth a ≡ false → inside_taps s input kernel (f.number * s.x.out + p) (tap_number s i a b k) ≡ none
@@ -51,7 +51,7 @@ module _ (s : Shape) (h : Grouped s) (input kernel : List Float) (f : Line) (g :
       let x = position_of s.x p k in
       let q = (z * s.y.input + y) * s.x.input + x in
       let t = lies s h f.number r.channel hp i.depth.depth_below i.row_below hk in
-      let at-q : t ≡ At q = rw (← g.depth_is, ← g.row_is, forward_at s.z f.depth r.depth i.depth.depth_inside, forward_at s.y f.row r.row i.row_inside, forward_at s.x p k e, both_at, both_at) in
+      let at-q : t ≡ Some q = rw (← g.depth_is, ← g.row_is, forward_at s.z f.depth r.depth i.depth.depth_inside, forward_at s.y f.row r.row i.row_inside, forward_at s.x p k e, both_at, both_at) in
       ap (λ (w : Place). tap_at input kernel (inside_only w)) (place_at s h f.number r.channel hp i.depth.depth_below i.row_below hk)
       ∙ placed_pair input kernel _ _ q t at-q
       ∙ ap₂ (λ (n m : ℕ). pair (read input n) (read kernel m))

@@ -2,7 +2,7 @@
 // sums are crate `halved`'s.
 #![tactic(auto)]
 
-ghost use Rattle.std.specs.Prelude.{◌≡◌, ◌+◌, ◌*◌, ◌≤◌, ◌<◌, length};
+ghost use Rattle.std.specs.Prelude.{◌≡◌, ◌+◌, ◌*◌, ◌≤◌, ◌<◌, length, IsOk};
 ghost use Rattle.shape.specs.Facts.{Grouped};
 ghost use Rattle.shape.specs.Volumes.{kernel_volume};
 ghost use Rattle.tensor.specs.Table.{tabulate};
@@ -15,9 +15,9 @@ ghost use Rattle.places.specs.Places.{place_of};
 ghost use Rattle.places.specs.Taps.{plane_taps};
 ghost use Rattle.convolution.specs.Inside.{LineOf, line_taps, channel_taps, depth_taps, row_taps, span_taps, row_number, row_of, weights_of, DepthInside, RowInside, RowFits, BlockInside, first_output, none_inside, ColumnsInside, PartInside, PartOf};
 
-use call::{Verdict, check_sum};
+use call::check_sum;
 use halved::with_halved_sums;
-use layer::{Answer, Layer, Op};
+use layer::{Layer, Op, Refusal};
 use rows::{add_beside, add_taps, start};
 use shape::{Shape, input_rows, out_rows};
 use sizes::Span;
@@ -380,25 +380,25 @@ impl Tensors<'_> {
 }
 
 // Convolution with running sums.
-fn with_running_sums(layer: Layer, input: &[f32], kernel: &[f32], output: &mut [f32]) -> Answer
+fn with_running_sums(
+    layer: Layer,
+    input: &[f32],
+    kernel: &[f32],
+    output: &mut [f32],
+) -> Result<(), Refusal>
     ensures answer { result ≡ answer_of Op.Convolution layer input.now kernel.now (length output.old) }
     ensures contents { output.new ≡ contents_of Op.Convolution Running place_of layer input.now kernel.now output.old }
-    ensures whole { result.number ≡ 0 → WholeOutputs Op.Convolution Running place_of layer input.now kernel.now output.new }
-    ensures finite { result.number ≡ 0 → FiniteOutputs output.new }
+    ensures whole { IsOk result → WholeOutputs Op.Convolution Running place_of layer input.now kernel.now output.new }
+    ensures finite { IsOk result → FiniteOutputs output.new }
 {
-    let verdict = check_sum(Op::Convolution, layer, input, kernel, output.len());
-    match verdict {
-        Verdict::Refuse(answer) => answer,
-        Verdict::Run(shape) => {
-            let tensors = Tensors {
-                shape,
-                input,
-                kernel,
-            };
-            tensors.fill(output);
-            Answer::numbered(0)
-        }
-    }
+    let shape = check_sum(Op::Convolution, layer, input, kernel, output.len())?;
+    let tensors = Tensors {
+        shape,
+        input,
+        kernel,
+    };
+    tensors.fill(output);
+    Ok(())
 }
 
 // Convolution by either profile: checks 1 to 9, and only then every output. No call is asked to be valid: each is answered.
@@ -408,11 +408,11 @@ pub fn convolution(
     input: &[f32],
     kernel: &[f32],
     output: &mut [f32],
-) -> Answer
+) -> Result<(), Refusal>
     ensures answer { result ≡ answer_of Op.Convolution layer input.now kernel.now (length output.old) }
     ensures contents { output.new ≡ contents_of Op.Convolution profile place_of layer input.now kernel.now output.old }
-    ensures whole { result.number ≡ 0 → WholeOutputs Op.Convolution profile place_of layer input.now kernel.now output.new }
-    ensures finite { result.number ≡ 0 → FiniteOutputs output.new }
+    ensures whole { IsOk result → WholeOutputs Op.Convolution profile place_of layer input.now kernel.now output.new }
+    ensures finite { IsOk result → FiniteOutputs output.new }
 {
     match profile {
         Profile::Running => with_running_sums(layer, input, kernel, output),
