@@ -68,6 +68,7 @@ fn put_shown(buf: &mut [u8], at: usize, count: usize, items: Items) -> usize
 }
 
 // So many of the numbers, up to six, with a comma between two.
+#[tactic(auto, unfolding(text::specs::Lists::show_numbers))]
 pub fn put_numbers(buf: &mut [u8], at: usize, count: usize, items: Items) -> usize
     ensures { Put buf.old at (show_numbers count items) result buf.new }
 {

@@ -137,6 +137,7 @@ fn spelled_numbers(t: &[u8], count: usize) -> Option<Items>
 }
 
 // The list of so many numbers, up to six, that a whole text spells.
+#[tactic(auto, unfolding(crate::specs::Lists::numbers))]
 pub fn read_numbers(t: &[u8], count: usize) -> Option<Items>
     ensures { result ≡ numbers count t.now }
 {

@@ -119,6 +119,7 @@ fn put_word(buf: &mut [u8], at: usize, field: Field, place: u32) -> usize
 
 // ---- reading
 
+#[tactic(auto, unfolding(crate::specs::Values::axes_number, text::specs::Lists::last_number))]
 fn axes_number(t: &[u8]) -> Option<Items>
     ensures { result ≡ last_number (axes_number (number t.now)) }
 {
