@@ -3,7 +3,6 @@ use Prim.Native.Nat.{ℕ, suc, ◌≤◌}
 use mathlib.Core.Path.{◌≡◌, refl, sym, ap, ◌∙◌, subst}
 use mathlib.Core.List.{List, [], ◌∷◌, ◌++◌}
 use mathlib.Core.Bool.{Bool, true, false, cond, not, ◌&&◌, ◌||◌, false≢true}
-use mathlib.Core.Option.{some}
 use native.Mathlib.Omega.{arith}
 use lib.Dec.{eqb, leb}
 use lib.IntN.{ℤ, pos, negsuc}
@@ -32,17 +31,17 @@ use Rattle.values.specs.Values.{field_value, show_field, is_default_value}
 use Rattle.values.specs.Kinds.{op_of, op_items, auto_pad_of, auto_pad_items, rounding_of, rounding_items, axis_of, axis_items}
 use Rattle.values.specs.declared.Field.TheVariants.{NumberList}
 use Rattle.lines.specs.Form.{Form, layer, read_form, show_form}
-use Rattle.lines.specs.declared.Read.TheVariants.{Sheet, Refused}
+use Rattle.layer.specs.Refusals.{sheet_number}
 use Rattle.fields.specs.Layers.{input_numbers, kernel_numbers, kernel_of, per_axis, with_sizes, with_pads, sized_layer, padded_layer, axis_list, input_list, kernel_list}
 use Rattle.fields.specs.declared.PerAxis.{PerAxis}
 use Rattle.fields.specs.Sheet.{size_lines, pad_lines, last_lines, twelve_lines, thirteen_lines, sheet_values, version_line, show_sheet}
 use Rattle.faults.specs.Faults.{bad_axis, hides, hides_sizes, is_default_padding}
 use Rattle.writer.specs.Writer.{written, write_sheet, buffer_after}
-use Rattle.std.specs.Prelude.{Result, Ok, Err, IfOk}
+use Rattle.std.specs.Prelude.{Result, Ok, Err, IfOk, Some}
 use Rattle.layer.specs.declared.SheetRefusal.{SheetRefusal}
 use Rattle.sheet.specs.Sheet.{lines_of, read_sheet}
 use Rattle.values.proofs.ValueLaws.{version_readable, version_back, op_again, auto_pad_again, rounding_again, op_readable, auto_pad_readable, rounding_readable, op_back, auto_pad_back, rounding_back, axes_readable, axes_back, OneDigit, axis_readable, axis_again, axis_back, list_readable, list_back}
-use Rattle.lines.proofs.FormLaws.{Says, form_there, form_back, form_numbered}
+use Rattle.lines.proofs.FormLaws.{Says, form_there, form_back, sheet_numbered}
 use Rattle.fields.proofs.Fits.{U32, AxisFits, LayerFits}
 use Rattle.fields.proofs.LayerLaws.{on_axes, listed, Counted, ListOk, by_axes, axes_again, list_again, axes_counted, input_counted, kernel_counted, axis_ok_lem, input_ok, kernel_ok_lem, input_again, kernel_again}
 use Rattle.faults.proofs.FaultLaws.{Passed, passed, passed_fine}
@@ -50,10 +49,10 @@ use Rattle.writer.proofs.WriteLaws.{enough, taken}
 
 -- ---- lists
 module _ (count : ℕ) (c : Counted count) (items : Items) where
-  list_there : ListOk count items → field_value (NumberList count) (show_field (NumberList count) items) ≡ some items
+  list_there : ListOk count items → field_value (NumberList count) (show_field (NumberList count) items) ≡ Some items
   list_there ok = list_readable count c.0 items c.1 c.2 ok.0 ok.1
 
-  list_kept : field_value (NumberList count) (show_field (NumberList count) items) ≡ some items → keep count items ≡ items
+  list_kept : field_value (NumberList count) (show_field (NumberList count) items) ≡ Some items → keep count items ≡ items
   list_kept e = list_back count c.0 items c.1 c.2 e
 
 -- ---- what a passed test says
@@ -144,12 +143,12 @@ shown_thirteen : (l : Layer) → l.version ≡ 14 → show_sheet l ≡ show_form
 unfolding show_sheet thirteen_lines show_form show_field word_at place
 shown_thirteen l e = ap (λ (n : ℕ). version_line n ++ show_form (twelve_lines n) (sheet_values l)) e
 
-read_twelve : (vs : List Items) (l : Layer) → Says (twelve_lines 8) vs l → read_sheet (show_form (twelve_lines 8) vs) ≡ Sheet l
+read_twelve : (vs : List Items) (l : Layer) → Says (twelve_lines 8) vs l → read_sheet (show_form (twelve_lines 8) vs) ≡ Ok l
 unfolding Says read_sheet starts_with show_form show_line twelve_lines
 read_twelve [] l h = absurd h
 read_twelve (v ∷ vs) l h = form_there (twelve_lines 8) (v ∷ vs) l h 1 (show_form (twelve_lines 8) (v ∷ vs)) 0 refl (omega arith)
 
-read_thirteen : (vs : List Items) (l : Layer) → Says (twelve_lines 14) vs l → read_sheet (show_form thirteen_lines (one_item 0 ∷ vs)) ≡ Sheet l
+read_thirteen : (vs : List Items) (l : Layer) → Says (twelve_lines 14) vs l → read_sheet (show_form thirteen_lines (one_item 0 ∷ vs)) ≡ Ok l
 unfolding Says read_sheet starts_with show_form show_line thirteen_lines
 read_thirteen vs l h =
     form_there thirteen_lines (one_item 0 ∷ vs) l (said version_readable refl h) 1 (show_form thirteen_lines (one_item 0 ∷ vs)) 0 refl (omega arith)
@@ -212,7 +211,7 @@ module _ (l : Layer) (p : Passed l) where
   -- ---- the values of a layer's lines say the layer
   module _ (f : LayerFits l) where
     axes_there : (φ : Axis → ℕ) → ((a : Axis) → AxisFits a → U32 (φ a))
-        → field_value (NumberList l.axes) (show_field (NumberList l.axes) (list_of φ)) ≡ some (list_of φ)
+        → field_value (NumberList l.axes) (show_field (NumberList l.axes) (list_of φ)) ≡ Some (list_of φ)
     axes_there φ u =
         list_there l.axes (axes_counted l.axes axes_good) _
         (axis_ok_lem l.axes axes_good (φ l.z) (φ l.y) (φ l.x) (u l.z f.z) (u l.y f.y) (u l.x f.x))
@@ -259,18 +258,18 @@ module _ (l : Layer) (p : Passed l) where
         (input_ok l.axes axes_good l.z.input l.y.input l.x.input f.z.input f.y.input f.x.input l.n l.c f.n f.c)) refl
         (subst (λ (op : Op). Says (after_input op) (drop 3 (sheet_values l)) l) (sym (op_again l.op)) says_sizes)))
 
-    twelve_there : l.version ≡ 8 → read_sheet (show_sheet l) ≡ Sheet l
+    twelve_there : l.version ≡ 8 → read_sheet (show_sheet l) ≡ Ok l
     twelve_there e =
         ap read_sheet (shown_twelve l e)
         ∙ read_twelve (sheet_values l) l (subst (λ (n : ℕ). Says (twelve_lines n) (sheet_values l) l) e says_there)
 
-    thirteen_there : l.version ≡ 14 → read_sheet (show_sheet l) ≡ Sheet l
+    thirteen_there : l.version ≡ 14 → read_sheet (show_sheet l) ≡ Ok l
     thirteen_there e =
         ap read_sheet (shown_thirteen l e)
         ∙ read_thirteen (sheet_values l) l (subst (λ (n : ℕ). Says (twelve_lines n) (sheet_values l) l) e says_there)
 
     -- Reading what was written.
-    pub sheet_there : read_sheet (show_sheet l) ≡ Sheet l
+    pub sheet_there : read_sheet (show_sheet l) ≡ Ok l
     sheet_there = by_version l.version (not-false (version_in l.version) p.version) twelve_there thirteen_there
 
 -- ---- the values that say a layer are those of its lines, and the writer takes it
@@ -373,7 +372,7 @@ says_back version known (op ∷ axes ∷ input ∷ kernel ∷ strides ∷ dilati
     let x = axes_back axes s₂.0 in
     let r = rounding_back version rounding s₁₁.0 in
     let z = axis_back axis s₁₂.0 in
-    let p : (v : Items) → field_value (NumberList axes.a) (show_field (NumberList axes.a) v) ≡ some v → keep axes.a v ≡ v =
+    let p : (v : Items) → field_value (NumberList axes.a) (show_field (NumberList axes.a) v) ≡ Some v → keep axes.a v ≡ v =
     λ v e. list_kept axes.a (axes_counted axes.a x.1) v e in (
       sym (ap (λ (m : Layer). m.version) s₁₂.2) ∙ made_version version op axes input kernel strides dilations mode begin end padding rounding axis x.1,
       ap sheet_values (sym s₁₂.2)
@@ -387,13 +386,13 @@ says_back version known (op ∷ axes ∷ input ∷ kernel ∷ strides ∷ dilati
     )
 
 -- a text of twelve lines is that of a layer of version 8, a text of thirteen that of one of version 14
-twelve_back : (s : List ℕ) (l : Layer) → read_form (twelve_lines 8) 1 s 0 ≡ Sheet l → (show_sheet l ≡ s) × Passed l
+twelve_back : (s : List ℕ) (l : Layer) → read_form (twelve_lines 8) 1 s 0 ≡ Ok l → (show_sheet l ≡ s) × Passed l
 twelve_back s l e =
     let r = form_back (twelve_lines 8) 1 s 0 l e in
     let b = says_back 8 refl r.0 l r.1 in
     (shown_twelve l b.0 ∙ ap (show_form (twelve_lines 8)) b.1 ∙ r.2, b.2)
 
-thirteen_back : (s : List ℕ) (l : Layer) → read_form thirteen_lines 1 s 0 ≡ Sheet l → (show_sheet l ≡ s) × Passed l
+thirteen_back : (s : List ℕ) (l : Layer) → read_form thirteen_lines 1 s 0 ≡ Ok l → (show_sheet l ≡ s) × Passed l
 unfolding Says thirteen_lines
 thirteen_back s l e = let r = form_back thirteen_lines 1 s 0 l e in go r.0 r.1 r.2
   where
@@ -404,11 +403,11 @@ thirteen_back s l e = let r = form_back thirteen_lines 1 s 0 l e in go r.0 r.1 r
         (shown_thirteen l b.0 ∙ (λ i. show_form thirteen_lines (sym (version_back v h.0) i ∷ b.1 i)) ∙ q, b.2)
 
 -- Writing what was read.
-pub sheet_back : (s : List ℕ) (l : Layer) → read_sheet s ≡ Sheet l → (show_sheet l ≡ s) × Passed l
+pub sheet_back : (s : List ℕ) (l : Layer) → read_sheet s ≡ Ok l → (show_sheet l ≡ s) × Passed l
 unfolding read_sheet
 sheet_back s l e = go (starts_with (text "version=") s) e
   where
-    go : (b : Bool) → read_form (cond b thirteen_lines (twelve_lines 8)) 1 s 0 ≡ Sheet l → (show_sheet l ≡ s) × Passed l
+    go : (b : Bool) → read_form (cond b thirteen_lines (twelve_lines 8)) 1 s 0 ≡ Ok l → (show_sheet l ≡ s) × Passed l
     go true q = thirteen_back s l q
     go false q = twelve_back s l q
 
@@ -416,14 +415,14 @@ sheet_back s l e = go (starts_with (text "version=") s) e
 
 -- Reading what was written: where a write is not refused, the bytes that it tells of are read as the layer that was written.
 pub way_back : (l : Layer) → LayerFits l → (before left : List ℕ) (w : Result ℕ SheetRefusal) → w ≡ write_sheet l (length before) → left ≡ buffer_after l before
-    → IfOk w (λ n. read_sheet (take n left) ≡ Sheet l)
+    → IfOk w (λ n. read_sheet (take n left) ≡ Ok l)
 way_back l f before left (Err refusal) a b = tt
 way_back l f before left (Ok n) a b =
     let t = taken l before n (sym a) in
     rw (b, t.long, t.left, take-append_seam (show_sheet l) (drop (length (show_sheet l)) before)) (sheet_there l (passed l t.fine) f)
 
 -- A layer that was read from s, where a write of it is not refused: the bytes that it tells of are s.
-pub rewritten : (s : List ℕ) (l : Layer) → read_sheet s ≡ Sheet l → (buffer : List ℕ) (n : ℕ) → write_sheet l (length buffer) ≡ Ok n
+pub rewritten : (s : List ℕ) (l : Layer) → read_sheet s ≡ Ok l → (buffer : List ℕ) (n : ℕ) → write_sheet l (length buffer) ≡ Ok n
     → (n ≡ length s) × (take n (buffer_after l buffer) ≡ s)
 rewritten s l e buffer n z =
     let t = taken l buffer n z in
@@ -431,13 +430,12 @@ rewritten s l e buffer n z =
     (t.long ∙ ap length b, rw (t.long, t.left, b, take-append_seam s (drop (length s) buffer)))
 
 -- Writing what was read: a layer that was read from s is written, into any buffer with room, as s.
-pub written_read : (s : List ℕ) (l : Layer) → read_sheet s ≡ Sheet l → (buffer : List ℕ) → length s ≤ length buffer
+pub written_read : (s : List ℕ) (l : Layer) → read_sheet s ≡ Ok l → (buffer : List ℕ) → length s ≤ length buffer
     → (write_sheet l (length buffer) ≡ written (length s)) × (buffer_after l buffer ≡ s ++ drop (length s) buffer)
 written_read s l e buffer h =
     let b = sheet_back s l e in
     rw b.0 at (enough l buffer (passed_fine l b.1) (rw b.0 h))
 
 -- A sheet that is not read is refused with a number that is not 0.
-pub refused_numbered : (s : List ℕ) (number line : ℕ) → read_sheet s ≡ Refused number line → number ≡ 0 → ⊥
-unfolding read_sheet
-refused_numbered s number line e = form_numbered (lines_of s) 1 s 0 number line e
+pub refused_numbered : (s : List ℕ) (r : SheetRefusal) → read_sheet s ≡ Err r → sheet_number r.error ≡ 0 → ⊥
+refused_numbered s r e = sheet_numbered r.error

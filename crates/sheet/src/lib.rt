@@ -1,18 +1,18 @@
 // The layer sheet: its reader and its writer over lent bytes, and the way back from one to the other.
 #![tactic(auto)]
 
-ghost use Rattle.std.specs.Prelude.{◌≡◌, length, take, IfOk};
+ghost use Rattle.std.specs.Prelude.{◌≡◌, length, take, IfOk, Ok};
 ghost use Rattle.writer.specs.Writer.{write_sheet, buffer_after};
 ghost use Rattle.sheet.specs.Sheet.{read_sheet};
 
 use layer::{Layer, SheetRefusal};
-use lines::Read;
 use reader::{read_lines, read_versioned};
 use text::starts;
 use writer::write_lines;
 
 // The layer that a sheet says, or the first bad line.
-pub fn read_sheet(s: &[u8]) -> Read
+#[tactic(auto, unfolding(crate::specs::Sheet::read_sheet))]
+pub fn read_sheet(s: &[u8]) -> Result<Layer, SheetRefusal>
     ensures { result ≡ read_sheet s.now }
 {
     if starts(s, b"version=") {
@@ -25,7 +25,7 @@ pub fn read_sheet(s: &[u8]) -> Read
 pub fn write_sheet(layer: Layer, buf: &mut [u8]) -> Result<usize, SheetRefusal>
     ensures answer { result ≡ write_sheet layer (length buf.old) }
     ensures contents { buf.new ≡ buffer_after layer buf.old }
-    ensures back { IfOk result (λ n. read_sheet (take n buf.new) ≡ Read.Sheet layer) }
+    ensures back { IfOk result (λ n. read_sheet (take n buf.new) ≡ Ok layer) }
 {
     write_lines(layer, buf)
 }
