@@ -84,7 +84,7 @@ impl Pooling<'_> {
         best
     }
 
-    // Writes the value and the index of each output of one row, of number `line` among all rows.
+    // Writes the value and the index of each output of one row, of number `line` among all rows. By the index, as `iter_mut` has the same lack.
     fn fill_line(&self, line: usize, values: &mut [f32], indices: &mut [i64])
         requires line_in { line * self.now.shape.x.out + self.now.shape.x.out ≤ self.now.shape.outputs }
         requires values_len { (length values.old ≡ self.now.shape.x.out) × (length indices.old ≡ self.now.shape.x.out) }
@@ -101,7 +101,7 @@ impl Pooling<'_> {
         }
     }
 
-    // Writes the value and the index of every output, row by row.
+    // Writes the value and the index of every output, row by row. No `chunks_mut`: a proof knows no element of the slices after it.
     fn fill(&self, values: &mut [f32], indices: &mut [i64])
         requires values_len { (length values.old ≡ self.now.shape.outputs) × (length indices.old ≡ self.now.shape.outputs) }
         ensures values_after { values.new ≡ tabulate (pooled_value self.now.input.now self.now.shape) self.now.shape.outputs }

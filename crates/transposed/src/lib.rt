@@ -162,7 +162,7 @@ impl Tensors<'_> {
         row.add_channels(out);
     }
 
-    // Every output, row by row.
+    // Every output, row by row. No `chunks_mut`: a proof knows no element of the slice after it.
     fn fill(&self, output: &mut [f32])
         requires output_len { length output.old ≡ self.now.shape.outputs }
         ensures { output.new ≡ tabulate (output_of Running (place_of self.now.shape) self.now.shape.taps self.now.input.now self.now.kernel.now) self.now.shape.outputs }
