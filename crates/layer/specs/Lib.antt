@@ -4,4 +4,3 @@ pub mod Limits
 pub mod Axes
 pub mod Versions
 pub mod Defaults
-pub mod Answers

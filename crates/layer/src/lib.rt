@@ -1,14 +1,13 @@
-// The layer record: what a layer sheet says of one layer, with its limits and defaults, and the answer record of a call.
+// The layer record: what a layer sheet says of one layer, with its limits and defaults, and why a call or a sheet is refused.
 #![tactic(auto)]
 
 ghost use Rattle.std.specs.Prelude.{◌≡◌};
-ghost use Rattle.layer.specs.Kinds.{is_pool, is_transposed, is_convolution, same_op, is_explicit, is_same, is_floor, is_ceil, is_ceil_torch, same_rounding};
+ghost use Rattle.layer.specs.Kinds.{is_pool, is_transposed, same_op, is_explicit, is_same, is_ceil_torch};
 ghost use Rattle.layer.specs.Axes.{axes_in, uses_y, uses_z};
 ghost use Rattle.layer.specs.Versions.{version_in, lacks_op, lacks_rounding};
 ghost use Rattle.layer.specs.Limits.{within, images_ok, channels_ok, size_ok, kernel_ok, step_ok, pad_ok, output_padding_ok, taps_ok, elements_ok, axis_ok};
 ghost use Rattle.layer.specs.Defaults.{default_axis, default_layer, is_default_rounding, is_default_axis_attribute};
-ghost use Rattle.layer.specs.Answers.{numbered, bad_element};
-ghost use Rattle.layer.specs.Refusals.{refusal_number, sheet_number};
+ghost use Rattle.layer.specs.Refusals.{refusal_number, refusal_tells, sheet_number};
 
 #[derive(Clone, Copy, PartialEq, Eq)]
 pub enum Op {
@@ -100,16 +99,6 @@ pub struct SheetRefusal {
     pub line: u32,
 }
 
-// What an operator comes back with: a number, and for number 9 the tensor, the place of its first bad element and the number of its bad elements. What a number
-// does not use is 0.
-#[derive(Clone, Copy)]
-pub struct Answer {
-    pub number: u32,
-    pub tensor: u32,
-    pub place: usize,
-    pub bad: usize,
-}
-
 impl Axis {
     pub const SIZE: u32 = 1;
 
@@ -171,32 +160,6 @@ impl Layer {
     }
 }
 
-impl Answer {
-    // An answer that tells no tensor, no place and no bad elements.
-    pub fn numbered(number: u32) -> Self
-        ensures { result ≡ numbered number }
-    {
-        Answer {
-            number,
-            tensor: 0,
-            place: 0,
-            bad: 0,
-        }
-    }
-
-    // Number 9: the tensor (0 input, 1 kernel), the place of its first bad element and the number of its bad elements.
-    pub fn bad_element(tensor: u32, place: usize, bad: usize) -> Self
-        ensures { result ≡ bad_element tensor place bad }
-    {
-        Answer {
-            number: 9,
-            tensor,
-            place,
-            bad,
-        }
-    }
-}
-
 impl Refusal {
     // Its number in document 01's table.
     pub fn number(self) -> u32
@@ -212,6 +175,16 @@ impl Refusal {
             Refusal::EmptyWindow => 7,
             Refusal::SliceLength => 8,
             Refusal::BadElement { .. } => 9,
+        }
+    }
+
+    // What it tells beside its number: the tensor, the place of its first bad element and how many there are; what a number does not use is 0.
+    pub fn tells(self) -> (u32, usize, usize)
+        ensures { result ≡ refusal_tells self }
+    {
+        match self {
+            Refusal::BadElement { tensor, place, bad } => (tensor, place, bad),
+            _ => (0, 0, 0),
         }
     }
 }

@@ -17,12 +17,11 @@ use Rattle.fields.proofs.Fits.{U32}
 use Rattle.fields.proofs.LayerLaws.{input_range}
 use Rattle.layer.specs.declared.Layer.{Layer}
 use Rattle.shape.specs.declared.Shape.{Shape}
-use Rattle.shape.specs.declared.Judged.{Judged}
-use Rattle.shape.specs.declared.Judged.TheVariants.{Accepted, Refused}
+use Rattle.std.specs.Prelude.{Result, Ok, Err}
+use Rattle.layer.specs.declared.Refusal.{Refusal}
 use Rattle.shape.specs.Judge.{judged}
 use Rattle.shape.proofs.Accepted.{axes_most}
 use Rattle.report.specs.declared.Output.{Output}
-use Rattle.report.specs.declared.OutputSizes.TheVariants.{Sizes}
 use Rattle.report.specs.Output.{output_in, output_of}
 use Rattle.report.specs.Report.{answer_line, line_line, output_line}
 
@@ -51,10 +50,10 @@ output_length axes o h hn hc hz hy hx =
     (arith, h, line_length (text "answer=") (decimal 0), digit, line_length (text "output=") (show_numbers (input_numbers axes) f), numbers_length (input_numbers axes) f (input_range axes o.n o.c o.z o.y o.x hn hc hz hy hx)))
 
 -- a layer with an output has at most three axes
-pub output_axes : (l : Layer) (o : Output) → output_of l ≡ Sizes o → l.axes ≤ 3
+pub output_axes : (l : Layer) (o : Output) → output_of l ≡ Ok o → l.axes ≤ 3
 unfolding output_of
 output_axes l o e = go (judged l.op l) (λ s q. axes_most l.op l s q) e
   where
-    go : (j : Judged) → ((s : Shape) → j ≡ Accepted s → l.axes ≤ 3) → output_in j ≡ Sizes o → l.axes ≤ 3
-    go (Accepted s) h q = h s refl
-    go (Refused n) h q = absurd (false≢true cc)
+    go : (j : Result Shape Refusal) → ((s : Shape) → j ≡ Ok s → l.axes ≤ 3) → output_in j ≡ Ok o → l.axes ≤ 3
+    go (Ok s) h q = h s refl
+    go (Err n) h q = absurd (false≢true cc)

@@ -1,8 +1,9 @@
-// What a sheet comes to: the sizes of its layer's output, or the number that refuses it, as values and as the text that the program prints.
+// What a sheet comes to: the sizes of its layer's output, or the refusal, as values and as the text that the program prints.
 // That text is at most 80 bytes long: two keys and line ends, and two numbers of at most ten digits or, after the answer 0, five with commas between them.
 #![tactic(auto)]
 
 ghost use Rattle.std.specs.Prelude.{◌≡◌, ◌++◌, ◌*◌, ◌≤◌};
+ghost use Rattle.layer.specs.Refusals.{sheet_number};
 ghost use Rattle.text.specs.Numbers.{decimal};
 ghost use Rattle.text.specs.Lines.{show_line};
 ghost use Rattle.print.specs.Put.{Put};
@@ -10,9 +11,9 @@ ghost use Rattle.report.specs.Output.{output_of};
 ghost use Rattle.report.specs.Report.{answer_line, line_line, output_line, sizes_report, report_of};
 
 use fields::{PerAxis, input_list};
-use layer::Layer;
-use lines::{Read, put_line};
-use shape::{Judged, judge};
+use layer::{Layer, Refusal, SheetRefusal};
+use lines::put_line;
+use shape::judge;
 use sheet::read_sheet;
 use text::{one_item, part_of};
 use values::Field;
@@ -27,29 +28,19 @@ pub struct Output {
     pub x: u32,
 }
 
-// The sizes of an output, or the number of a refusal.
-#[derive(Clone, Copy)]
-pub enum OutputSizes {
-    Sizes(Output),
-    NoSizes(u32),
-}
-
 // Checks 1 to 7 of the layer's own operator, and the sizes of the output.
-pub fn output_sizes(layer: Layer) -> OutputSizes
+#[tactic(auto, unfolding(crate::specs::Output::output_of))]
+pub fn output_sizes(layer: Layer) -> Result<Output, Refusal>
     ensures { result ≡ output_of layer }
 {
-    let op = layer.op;
-    let judged = judge(op, layer);
-    match judged {
-        Judged::Refused(number) => OutputSizes::NoSizes(number),
-        Judged::Accepted(s) => OutputSizes::Sizes(Output {
-            n: s.n as u32,
-            c: s.channels as u32,
-            z: s.z.out,
-            y: s.y.out,
-            x: s.x.out,
-        }),
-    }
+    let s = judge(layer.op, layer)?;
+    Ok(Output {
+        n: s.n as u32,
+        c: s.channels as u32,
+        z: s.z.out,
+        y: s.y.out,
+        x: s.x.out,
+    })
 }
 
 // ---- the text that the program prints
@@ -83,20 +74,19 @@ fn put_layer(buf: &mut [u8], layer: Layer) -> usize
     ensures put { Put buf.old 0 (sizes_report layer.axes (output_of layer)) result buf.new }
     ensures upper_bound { result ≤ 80 }
 {
-    let sizes = output_sizes(layer);
-    match sizes {
-        OutputSizes::NoSizes(number) => put_number_line(buf, 0, b"answer=", number),
-        OutputSizes::Sizes(o) => put_output(buf, layer.axes, o),
+    match output_sizes(layer) {
+        Ok(o) => put_output(buf, layer.axes, o),
+        Err(refusal) => put_number_line(buf, 0, b"answer=", refusal.number()),
     }
 }
 
 // The lines of a sheet that is not read.
-fn put_refusal(buf: &mut [u8], number: u32, line: u32) -> usize
-    ensures put { Put buf.old 0 (answer_line number ++ line_line line) result buf.new }
+fn put_refusal(buf: &mut [u8], refusal: SheetRefusal) -> usize
+    ensures put { Put buf.old 0 (answer_line (sheet_number refusal.error) ++ line_line refusal.line) result buf.new }
     ensures upper_bound { result ≤ 80 }
 {
-    let next = put_number_line(buf, 0, b"answer=", number);
-    put_number_line(buf, next, b"line=", line)
+    let next = put_number_line(buf, 0, b"answer=", refusal.error.number());
+    put_number_line(buf, next, b"line=", refusal.line)
 }
 
 // The report of the first 512 bytes as a sheet, from the start of the buffer, as far as it goes; the place after it.
@@ -104,9 +94,8 @@ pub fn report(input: &[u8], buf: &mut [u8]) -> usize
     ensures text { Put buf.old 0 (report_of input.now) result buf.new }
     ensures bound { result ≤ 80 }
 {
-    let read = read_sheet(part_of(input, 0, 512));
-    match read {
-        Read::Refused(number, line) => put_refusal(buf, number, line),
-        Read::Sheet(layer) => put_layer(buf, layer),
+    match read_sheet(part_of(input, 0, 512)) {
+        Ok(layer) => put_layer(buf, layer),
+        Err(refusal) => put_refusal(buf, refusal),
     }
 }

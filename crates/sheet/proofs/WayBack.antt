@@ -39,7 +39,7 @@ use Rattle.faults.specs.Faults.{bad_axis, hides, hides_sizes, is_default_padding
 use Rattle.writer.specs.Writer.{written, write_sheet, buffer_after}
 use Rattle.std.specs.Prelude.{Result, Ok, Err, IfOk, Some}
 use Rattle.layer.specs.declared.SheetRefusal.{SheetRefusal}
-use Rattle.sheet.specs.Sheet.{lines_of, read_sheet}
+use Rattle.sheet.specs.Sheet.{read_sheet}
 use Rattle.values.proofs.ValueLaws.{version_readable, version_back, op_again, auto_pad_again, rounding_again, op_readable, auto_pad_readable, rounding_readable, op_back, auto_pad_back, rounding_back, axes_readable, axes_back, OneDigit, axis_readable, axis_again, axis_back, list_readable, list_back}
 use Rattle.lines.proofs.FormLaws.{Says, form_there, form_back, sheet_numbered}
 use Rattle.fields.proofs.Fits.{U32, AxisFits, LayerFits}

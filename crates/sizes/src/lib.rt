@@ -32,19 +32,6 @@ pub struct Pads {
 
 // ---- whole numbers
 
-// a - b, or 0 where that is less
-pub fn minus(a: usize, b: usize) -> usize
-    ensures { result ≡ a - b }
-{
-    if b <= a { a - b } else { 0 }
-}
-
-pub fn least(a: usize, b: usize) -> usize
-    ensures { result ≡ min a b }
-{
-    if a <= b { a } else { b }
-}
-
 // ceil(a/b); 0 where b is 0. A divisor of 1, and one of at least a, need no division.
 pub fn ceil_div(a: usize, b: usize) -> usize
     ensures { result ≡ ceil_div a b }
