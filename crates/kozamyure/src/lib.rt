@@ -14,11 +14,10 @@ ghost use Rattle.report.specs.Output.{output_of};
 ghost use Rattle.kozamyure.specs.Boundary.{unread, answered, call_answer, call_contents, pool_answer, pool_values, pool_indices, no_shape, sizes_shape, shape_answer, no_lengths, kernel_length, lengths_in, lengths_answer, plane_part, peak_found, written_back, rewrite_answer, rewrite_buffer, version};
 
 use convolution::convolution;
-use layer::{Answer, Layer, Op, SheetRefusal};
-use lines::Read;
+use layer::{Layer, Op, Refusal, SheetRefusal};
 use pooling::max_pool;
-use report::{OutputSizes, output_sizes};
-use shape::{Judged, judge};
+use report::output_sizes;
+use shape::judge;
 use sheet::{read_sheet, write_sheet};
 use sums::Profile;
 use tensor::{find_peak, plane_part};
@@ -89,31 +88,47 @@ pub struct SheetWritten {
     pub length: usize,
 }
 
-fn no_call(number: u32, line: u32) -> CallAnswer
-    ensures { result ≡ unread number line }
+// The answer of a call that is done.
+const DONE: CallAnswer = CallAnswer {
+    number: 0,
+    line: 0,
+    tensor: 0,
+    place: 0,
+    bad: 0,
+};
+
+fn unread(refusal: SheetRefusal) -> CallAnswer
+    ensures { result ≡ unread refusal }
 {
     CallAnswer {
-        number,
-        line,
+        number: refusal.error.number(),
+        line: refusal.line,
         tensor: 0,
         place: 0,
         bad: 0,
     }
 }
 
-fn call_answer(a: Answer) -> CallAnswer
-    ensures { result ≡ answered a }
+fn answered(answer: Result<(), Refusal>) -> CallAnswer
+    ensures { result ≡ answered answer }
 {
-    CallAnswer {
-        number: a.number,
-        line: 0,
-        tensor: a.tensor,
-        place: a.place,
-        bad: a.bad,
+    match answer {
+        Ok(()) => DONE,
+        Err(refusal) => {
+            let (tensor, place, bad) = refusal.tells();
+            CallAnswer {
+                number: refusal.number(),
+                line: 0,
+                tensor,
+                place,
+                bad,
+            }
+        }
     }
 }
 
 // Convolution by either profile.
+#[tactic(auto, unfolding(crate::specs::Boundary::call_answer, crate::specs::Boundary::call_contents))]
 fn convolve(
     profile: Profile,
     sheet: &[u8],
@@ -124,10 +139,9 @@ fn convolve(
     ensures answer { result ≡ call_answer Convolution (read_sheet sheet.now) input.now kernel.now (length output.old) }
     ensures contents { output.new ≡ call_contents Convolution profile convolutionPlaces (read_sheet sheet.now) input.now kernel.now output.old }
 {
-    let read = read_sheet(sheet);
-    match read {
-        Read::Refused(number, line) => no_call(number, line),
-        Read::Sheet(layer) => call_answer(convolution(profile, layer, input, kernel, output)),
+    match read_sheet(sheet) {
+        Ok(layer) => answered(convolution(profile, layer, input, kernel, output)),
+        Err(refusal) => unread(refusal),
     }
 }
 
@@ -158,6 +172,7 @@ pub extern "C" fn koza_convolution_halved(
 }
 
 #[unsafe(no_mangle)]
+#[tactic(auto, unfolding(crate::specs::Boundary::call_answer, crate::specs::Boundary::call_contents))]
 pub extern "C" fn koza_transposed(
     sheet: &[u8],
     input: &[f32],
@@ -167,14 +182,14 @@ pub extern "C" fn koza_transposed(
     ensures answer { result ≡ call_answer Transposed (read_sheet sheet.now) input.now kernel.now (length output.old) }
     ensures contents { output.new ≡ call_contents Transposed Running transposedPlaces (read_sheet sheet.now) input.now kernel.now output.old }
 {
-    let read = read_sheet(sheet);
-    match read {
-        Read::Refused(number, line) => no_call(number, line),
-        Read::Sheet(layer) => call_answer(transposed(layer, input, kernel, output)),
+    match read_sheet(sheet) {
+        Ok(layer) => answered(transposed(layer, input, kernel, output)),
+        Err(refusal) => unread(refusal),
     }
 }
 
 #[unsafe(no_mangle)]
+#[tactic(auto, unfolding(crate::specs::Boundary::pool_answer, crate::specs::Boundary::pool_values, crate::specs::Boundary::pool_indices))]
 pub extern "C" fn koza_maxpool(
     sheet: &[u8],
     input: &[f32],
@@ -185,10 +200,9 @@ pub extern "C" fn koza_maxpool(
     ensures values { values.new ≡ pool_values (read_sheet sheet.now) input.now values.old indices.old }
     ensures indices { indices.new ≡ pool_indices (read_sheet sheet.now) input.now values.old indices.old }
 {
-    let read = read_sheet(sheet);
-    match read {
-        Read::Refused(number, line) => no_call(number, line),
-        Read::Sheet(layer) => call_answer(max_pool(layer, input, values, indices)),
+    match read_sheet(sheet) {
+        Ok(layer) => answered(max_pool(layer, input, values, indices)),
+        Err(refusal) => unread(refusal),
     }
 }
 
@@ -210,10 +224,9 @@ fn no_shape(number: u32, line: u32) -> ShapeAnswer
 fn layer_shape(layer: Layer) -> ShapeAnswer
     ensures { result ≡ sizes_shape layer.axes (output_of layer) }
 {
-    let sizes = output_sizes(layer);
-    match sizes {
-        OutputSizes::NoSizes(number) => no_shape(number, 0),
-        OutputSizes::Sizes(o) => ShapeAnswer {
+    match output_sizes(layer) {
+        Err(refusal) => no_shape(refusal.number(), 0),
+        Ok(o) => ShapeAnswer {
             number: 0,
             line: 0,
             axes: layer.axes,
@@ -227,13 +240,13 @@ fn layer_shape(layer: Layer) -> ShapeAnswer
 }
 
 #[unsafe(no_mangle)]
+#[tactic(auto, unfolding(crate::specs::Boundary::shape_answer))]
 pub extern "C" fn koza_shape(sheet: &[u8]) -> ShapeAnswer
     ensures { result ≡ shape_answer (read_sheet sheet.now) }
 {
-    let read = read_sheet(sheet);
-    match read {
-        Read::Refused(number, line) => no_shape(number, line),
-        Read::Sheet(layer) => layer_shape(layer),
+    match read_sheet(sheet) {
+        Ok(layer) => layer_shape(layer),
+        Err(refusal) => no_shape(refusal.error.number(), refusal.line),
     }
 }
 
@@ -254,8 +267,7 @@ fn kernel_length(op: Op, weights: usize) -> usize
     ensures { result ≡ kernel_length op weights }
 {
     match op {
-        Op::Convolution => weights,
-        Op::Transposed => weights,
+        Op::Convolution | Op::Transposed => weights,
         Op::MaxPool => 0,
     }
 }
@@ -264,10 +276,9 @@ fn layer_lengths(layer: Layer) -> LengthsAnswer
     ensures { result ≡ lengths_in layer.op (judged layer.op layer) }
 {
     let op = layer.op;
-    let judged = judge(op, layer);
-    match judged {
-        Judged::Refused(number) => no_lengths(number, 0),
-        Judged::Accepted(s) => LengthsAnswer {
+    match judge(op, layer) {
+        Err(refusal) => no_lengths(refusal.number(), 0),
+        Ok(s) => LengthsAnswer {
             number: 0,
             line: 0,
             input: s.inputs,
@@ -278,13 +289,13 @@ fn layer_lengths(layer: Layer) -> LengthsAnswer
 }
 
 #[unsafe(no_mangle)]
+#[tactic(auto, unfolding(crate::specs::Boundary::lengths_answer))]
 pub extern "C" fn koza_lengths(sheet: &[u8]) -> LengthsAnswer
     ensures { result ≡ lengths_answer (read_sheet sheet.now) }
 {
-    let read = read_sheet(sheet);
-    match read {
-        Read::Refused(number, line) => no_lengths(number, line),
-        Read::Sheet(layer) => layer_lengths(layer),
+    match read_sheet(sheet) {
+        Ok(layer) => layer_lengths(layer),
+        Err(refusal) => no_lengths(refusal.error.number(), refusal.line),
     }
 }
 
@@ -313,15 +324,26 @@ pub extern "C" fn koza_plane(
 pub extern "C" fn koza_peak(plane: &[f32], width: usize) -> PeakFound
     ensures { result ≡ peak_found (peak_of plane.now width) }
 {
-    let found = find_peak(plane, width);
-    let peak = found.peak;
-    PeakFound {
-        number: found.number,
-        place: found.place,
-        bad: found.bad,
-        value: peak.value,
-        row: peak.row,
-        column: peak.column,
+    match find_peak(plane, width) {
+        Ok(peak) => PeakFound {
+            number: 0,
+            place: 0,
+            bad: 0,
+            value: peak.value,
+            row: peak.row,
+            column: peak.column,
+        },
+        Err(refusal) => {
+            let (_, place, bad) = refusal.tells();
+            PeakFound {
+                number: refusal.number(),
+                place,
+                bad,
+                value: 0.0,
+                row: 0,
+                column: 0,
+            }
+        }
     }
 }
 
@@ -349,14 +371,9 @@ pub extern "C" fn koza_rewrite(sheet: &[u8], buffer: &mut [u8]) -> SheetWritten
     ensures contents { buffer.new ≡ rewrite_buffer (read_sheet sheet.now) buffer.old }
     ensures back { result.number ≡ 0 → (result.length ≡ length sheet.now) × (take result.length buffer.new ≡ sheet.now) }
 {
-    let read = read_sheet(sheet);
-    match read {
-        Read::Refused(number, line) => SheetWritten {
-            number,
-            line,
-            length: 0,
-        },
-        Read::Sheet(layer) => written_back(write_sheet(layer, buffer)),
+    match read_sheet(sheet) {
+        Ok(layer) => written_back(write_sheet(layer, buffer)),
+        Err(refusal) => written_back(Err(refusal)),
     }
 }
 
