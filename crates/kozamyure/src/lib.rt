@@ -20,7 +20,7 @@ use report::output_sizes;
 use shape::judge;
 use sheet::{read_sheet, write_sheet};
 use sums::Profile;
-use tensor::{find_peak, plane_part};
+use tensor::{Part, Peak, find_peak, plane_part};
 use transposed::transposed;
 
 // An operator's answer: the line for numbers 20 to 23; for 9 the tensor, the place of its first bad element and the number of its bad elements.
@@ -97,32 +97,94 @@ const DONE: CallAnswer = CallAnswer {
     bad: 0,
 };
 
-fn unread(refusal: SheetRefusal) -> CallAnswer
-    ensures { result ≡ unread refusal }
-{
-    CallAnswer {
-        number: refusal.error.number(),
-        line: refusal.line,
-        tensor: 0,
-        place: 0,
-        bad: 0,
+impl From<SheetRefusal> for CallAnswer {
+    ghost from_gives = { λ refusal r. r ≡ unread refusal };
+
+    fn from(refusal: SheetRefusal) -> CallAnswer {
+        CallAnswer {
+            number: refusal.error.number(),
+            line: refusal.line,
+            tensor: 0,
+            place: 0,
+            bad: 0,
+        }
     }
 }
 
-fn answered(answer: Result<(), Refusal>) -> CallAnswer
-    ensures { result ≡ answered answer }
-{
-    match answer {
-        Ok(()) => DONE,
-        Err(refusal) => {
-            let (tensor, place, bad) = refusal.tells();
-            CallAnswer {
-                number: refusal.number(),
-                line: 0,
-                tensor,
-                place,
-                bad,
+impl From<Result<(), Refusal>> for CallAnswer {
+    ghost from_gives = { λ answer r. r ≡ answered answer };
+
+    fn from(answer: Result<(), Refusal>) -> CallAnswer {
+        match answer {
+            Ok(()) => DONE,
+            Err(refusal) => {
+                let (tensor, place, bad) = refusal.tells();
+                CallAnswer {
+                    number: refusal.number(),
+                    line: 0,
+                    tensor,
+                    place,
+                    bad,
+                }
             }
+        }
+    }
+}
+
+impl From<Part> for PlanePart {
+    ghost from_gives = { λ part r. r ≡ plane_part part };
+
+    fn from(part: Part) -> PlanePart {
+        PlanePart {
+            start: part.start,
+            length: part.length,
+        }
+    }
+}
+
+impl From<Result<Peak, Refusal>> for PeakFound {
+    ghost from_gives = { λ found r. r ≡ peak_found found };
+
+    fn from(found: Result<Peak, Refusal>) -> PeakFound {
+        match found {
+            Ok(peak) => PeakFound {
+                number: 0,
+                place: 0,
+                bad: 0,
+                value: peak.value,
+                row: peak.row,
+                column: peak.column,
+            },
+            Err(refusal) => {
+                let (_, place, bad) = refusal.tells();
+                PeakFound {
+                    number: refusal.number(),
+                    place,
+                    bad,
+                    value: 0.0,
+                    row: 0,
+                    column: 0,
+                }
+            }
+        }
+    }
+}
+
+impl From<Result<usize, SheetRefusal>> for SheetWritten {
+    ghost from_gives = { λ written r. r ≡ written_back written };
+
+    fn from(written: Result<usize, SheetRefusal>) -> SheetWritten {
+        match written {
+            Ok(length) => SheetWritten {
+                number: 0,
+                line: 0,
+                length,
+            },
+            Err(refusal) => SheetWritten {
+                number: refusal.error.number(),
+                line: refusal.line,
+                length: 0,
+            },
         }
     }
 }
@@ -140,8 +202,8 @@ fn convolve(
     ensures contents { output.new ≡ call_contents Convolution profile convolutionPlaces (read_sheet sheet.now) input.now kernel.now output.old }
 {
     match read_sheet(sheet) {
-        Ok(layer) => answered(convolution(profile, layer, input, kernel, output)),
-        Err(refusal) => unread(refusal),
+        Ok(layer) => CallAnswer::from(convolution(profile, layer, input, kernel, output)),
+        Err(refusal) => CallAnswer::from(refusal),
     }
 }
 
@@ -183,8 +245,8 @@ pub extern "C" fn koza_transposed(
     ensures contents { output.new ≡ call_contents Transposed Running transposedPlaces (read_sheet sheet.now) input.now kernel.now output.old }
 {
     match read_sheet(sheet) {
-        Ok(layer) => answered(transposed(layer, input, kernel, output)),
-        Err(refusal) => unread(refusal),
+        Ok(layer) => CallAnswer::from(transposed(layer, input, kernel, output)),
+        Err(refusal) => CallAnswer::from(refusal),
     }
 }
 
@@ -201,8 +263,8 @@ pub extern "C" fn koza_maxpool(
     ensures indices { indices.new ≡ pool_indices (read_sheet sheet.now) input.now values.old indices.old }
 {
     match read_sheet(sheet) {
-        Ok(layer) => answered(max_pool(layer, input, values, indices)),
-        Err(refusal) => unread(refusal),
+        Ok(layer) => CallAnswer::from(max_pool(layer, input, values, indices)),
+        Err(refusal) => CallAnswer::from(refusal),
     }
 }
 
@@ -313,55 +375,14 @@ pub extern "C" fn koza_plane(
 ) -> PlanePart
     ensures { result ≡ plane_part (part_of (length tensor.now) n c z y x image channel depth) }
 {
-    let part = plane_part(tensor.len(), n, c, z, y, x, image, channel, depth);
-    PlanePart {
-        start: part.start,
-        length: part.length,
-    }
+    PlanePart::from(plane_part(tensor.len(), n, c, z, y, x, image, channel, depth))
 }
 
 #[unsafe(no_mangle)]
 pub extern "C" fn koza_peak(plane: &[f32], width: usize) -> PeakFound
     ensures { result ≡ peak_found (peak_of plane.now width) }
 {
-    match find_peak(plane, width) {
-        Ok(peak) => PeakFound {
-            number: 0,
-            place: 0,
-            bad: 0,
-            value: peak.value,
-            row: peak.row,
-            column: peak.column,
-        },
-        Err(refusal) => {
-            let (_, place, bad) = refusal.tells();
-            PeakFound {
-                number: refusal.number(),
-                place,
-                bad,
-                value: 0.0,
-                row: 0,
-                column: 0,
-            }
-        }
-    }
-}
-
-fn written_back(written: Result<usize, SheetRefusal>) -> SheetWritten
-    ensures { result ≡ written_back written }
-{
-    match written {
-        Ok(length) => SheetWritten {
-            number: 0,
-            line: 0,
-            length,
-        },
-        Err(refusal) => SheetWritten {
-            number: refusal.error.number(),
-            line: refusal.line,
-            length: 0,
-        },
-    }
+    PeakFound::from(find_peak(plane, width))
 }
 
 // Where the number is 0, the buffer begins with the sheet's own bytes.
@@ -372,8 +393,8 @@ pub extern "C" fn koza_rewrite(sheet: &[u8], buffer: &mut [u8]) -> SheetWritten
     ensures back { result.number ≡ 0 → (result.length ≡ length sheet.now) × (take result.length buffer.new ≡ sheet.now) }
 {
     match read_sheet(sheet) {
-        Ok(layer) => written_back(write_sheet(layer, buffer)),
-        Err(refusal) => written_back(Err(refusal)),
+        Ok(layer) => SheetWritten::from(write_sheet(layer, buffer)),
+        Err(refusal) => SheetWritten::from(Err(refusal)),
     }
 }
 
