@@ -10,7 +10,8 @@ use Rattle.shape.specs.Facts.{Pooled}
 use Rattle.shape.specs.Volumes.{input_rows, out_rows, on_rows}
 use Rattle.shape.proofs.Volumes.{rows_below}
 use Rattle.taps.specs.Joins.{forward}
-use Rattle.taps.proofs.Joins.{forward_below, below_at}
+use Rattle.taps.specs.Directions.{forward_below}
+use Rattle.taps.proofs.Joins.{below_at}
 use Rattle.tensor.proofs.Lines.{line_start}
 use Rattle.call.proofs.Planes.{products}
 

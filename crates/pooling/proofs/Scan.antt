@@ -10,7 +10,8 @@ use lib.Ieee.{Float}
 use Rattle.layer.proofs.Places.{place_div, place_mod}
 use Rattle.sizes.specs.declared.Span.{Span}
 use Rattle.taps.specs.Joins.{forward, both, Below}
-use Rattle.taps.proofs.Joins.{forward_below, below_at}
+use Rattle.taps.specs.Directions.{forward_below}
+use Rattle.taps.proofs.Joins.{below_at}
 use Rattle.shape.specs.declared.Shape.{Shape}
 use Rattle.shape.specs.Facts.{Sound}
 use Rattle.shape.specs.Volumes.{input_rows, kernel_rows, out_rows, out_volume, input_volume, on_rows, on_plane}

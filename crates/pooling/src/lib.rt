@@ -13,7 +13,8 @@ use call::check_pool;
 use layer::{Layer, Refusal};
 use shape::{Shape, input_rows, kernel_rows, out_rows, row_tap};
 use sizes::Span;
-use taps::{Direction, forward};
+use taps::direction::Forward;
+use taps::forward;
 use tensor::{Window, better};
 
 // The lent input of a call, with the shape that it fits.
@@ -58,7 +59,7 @@ impl Pooling<'_> {
         requires { (first + input_rows self.now.shape) * self.now.shape.x.input ≤ self.now.shape.inputs }
         ensures { result ≡ after_tap (row_step self.now.input.now first self.now.shape.x q) (on_rows forward self.now.shape p k) w }
     {
-        let t = row_tap(Direction::Forward, self.shape, p, k);
+        let t = row_tap::<Forward>(self.shape, p, k);
         match t {
             None => w,
             Some(r) => {

@@ -17,7 +17,8 @@ use Rattle.layer.specs.declared.Layer.{Layer}
 use Rattle.layer.proofs.Places.{place_within}
 use Rattle.taps.specs.Taps.{any_below}
 use Rattle.taps.specs.Joins.{forward, is_at, Below}
-use Rattle.taps.proofs.Joins.{forward_below, below_at}
+use Rattle.taps.specs.Directions.{forward_below}
+use Rattle.taps.proofs.Joins.{below_at}
 use Rattle.shape.specs.declared.Shape.{Shape}
 use Rattle.shape.specs.Counts.{shape_of}
 use Rattle.shape.specs.Facts.{Sound, Pooled}

@@ -10,9 +10,9 @@ use borrow.Author.Tests.{ltb-true, eqb-true}
 use Rattle.layer.proofs.Tests.{and_both}
 use Rattle.layer.proofs.Places.{place_div, place_mod}
 use Rattle.sizes.specs.declared.Span.{Span}
-use Rattle.taps.specs.declared.Direction.{Direction}
-use Rattle.taps.specs.Joins.{tap_on, both, is_at, Below}
-use Rattle.taps.proofs.Joins.{first_tap_lem, both_first, both_below, both_inside}
+use Rattle.taps.specs.Joins.{both, is_at, Below}
+use Rattle.taps.specs.Directions.{TapLaws}
+use Rattle.taps.proofs.Joins.{both_first, both_below, both_inside}
 use Rattle.shape.specs.declared.Shape.{Shape}
 use Rattle.shape.specs.Volumes.{input_rows, kernel_rows, out_rows, input_volume, on_rows, on_plane}
 use Rattle.shape.specs.Facts.{Sound}
@@ -50,17 +50,17 @@ module _ (f : Span → ℕ → ℕ → Option ℕ) (s : Shape) where
   plane_inside p k = both_inside s.x.input (on_rows f s (p / s.x.out) (k / s.x.kernel)) (f s.x (p % s.x.out) (k % s.x.kernel))
 
 -- ---- a row of the first depth
-pub first_depth : (d : Direction) (s : Shape) (p k : ℕ)
-    → ltb p s.y.out && ltb k s.y.kernel && eqb s.z.begin 0 && ltb 0 s.z.input ≡ true → tap_on d s.y p k ≡ on_rows (tap_on d) s p k
-unfolding on_rows
-first_depth d s p k e =
-    let a = and_both _ (ltb 0 s.z.input) e in
-    let b = and_both _ (eqb s.z.begin 0) a.0 in
-    let c = and_both (ltb p s.y.out) (ltb k s.y.kernel) b.0 in
-    let hp = ltb-true p s.y.out c.0 in
-    let hk = ltb-true k s.y.kernel c.1 in
-    let t = first_tap_lem d s.z (eqb-true s.z.begin 0 b.1) (ltb-true 0 s.z.input a.1) in
-    sym (rw (div-eq_of_lt hp, div-eq_of_lt hk, mod-eq_of_lt hp, mod-eq_of_lt hk, t) (both_first s.y.input (tap_on d s.y p k)))
+module _ {f : Span → ℕ → ℕ → Option ℕ} (laws : TapLaws f) where
+  pub first_depth : (s : Shape) (p k : ℕ) → ltb p s.y.out && ltb k s.y.kernel && eqb s.z.begin 0 && ltb 0 s.z.input ≡ true → f s.y p k ≡ on_rows f s p k
+  unfolding on_rows
+  first_depth s p k e =
+      let a = and_both _ (ltb 0 s.z.input) e in
+      let b = and_both _ (eqb s.z.begin 0) a.0 in
+      let c = and_both (ltb p s.y.out) (ltb k s.y.kernel) b.0 in
+      let hp = ltb-true p s.y.out c.0 in
+      let hk = ltb-true k s.y.kernel c.1 in
+      let t = laws.first_tap_lem s.z (eqb-true s.z.begin 0 b.1) (ltb-true 0 s.z.input a.1) in
+      sym (rw (div-eq_of_lt hp, div-eq_of_lt hk, mod-eq_of_lt hp, mod-eq_of_lt hk, t) (both_first s.y.input (f s.y p k)))
 
 -- ---- rows by depths
 pub kernel_rows_are : (s : Shape) → kernel_rows s ≡ s.z.kernel * s.y.kernel

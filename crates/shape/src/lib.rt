@@ -4,7 +4,7 @@
 ghost use Rattle.std.specs.Prelude.{◌*◌, ◌/◌, ◌%◌, ◌≤◌, ◌^◌, ◌≡◌, not, ◌&&◌};
 ghost use Rattle.layer.specs.Kinds.{is_pool};
 ghost use Rattle.sizes.specs.Bounds.{SpanLimits};
-ghost use Rattle.taps.specs.Joins.{tap_on, both, Below};
+ghost use Rattle.taps.specs.Joins.{both, Below};
 ghost use Rattle.counts.specs.Counts.{capped};
 ghost use Rattle.shape.specs.Counts.{input_count, kernel_count, tap_count, output_channels, modulus_of, shape_with};
 ghost use Rattle.shape.specs.Volumes.{input_rows, kernel_rows, out_rows, on_depths, on_rows};
@@ -20,7 +20,8 @@ use layer::{
     lacks_rounding, same_op, taps_ok, uses_y, uses_z, version_in,
 };
 use sizes::{Span, axis_attributes_ok, axis_dimensions_ok, mode_ok, size_axis};
-use taps::{Direction, some_missed, tap_on};
+use taps::direction::Direction;
+use taps::some_missed;
 
 // What an accepted layer comes to: its sizes and output channels, the spans of its axes, the taps of an output, the elements of input, kernel and output, and
 // what the index of a pooled element is counted modulo.
@@ -338,24 +339,24 @@ fn taken_apart(n: u32, size: u32) -> Parts
 }
 
 // Two axes as one: where a tap of both lies.
-fn folded_tap(d: Direction, z: Span, y: Span, p: u32, k: u32) -> Option<usize>
-    ensures { result ≡ on_depths (tap_on d) z y p k }
+fn folded_tap<D: Direction>(z: Span, y: Span, p: u32, k: u32) -> Option<usize>
+    ensures { result ≡ on_depths D.tap z y p k }
 {
     let row = taken_apart(p, y.out);
     let tap = taken_apart(k, y.kernel);
-    let outer = tap_on(d, z, row.outer, tap.outer);
-    let inner = tap_on(d, y, row.inner, tap.inner);
+    let outer = D::tap(z, row.outer, tap.outer);
+    let inner = D::tap(y, row.inner, tap.inner);
     both(y.input, outer, inner)
 }
 
 // The row of the input at which kernel row k of output row p lies, in either direction. A row of the first depth, which is all that one or two axes have, is
 // found without a division.
-pub fn row_tap(d: Direction, s: Shape, p: u32, k: u32) -> Option<usize>
-    ensures { result ≡ on_rows (tap_on d) s p k }
+pub fn row_tap<D: Direction>(s: Shape, p: u32, k: u32) -> Option<usize>
+    ensures { result ≡ on_rows D.tap s p k }
 {
     let first = (p < s.y.out) & (k < s.y.kernel) & (s.z.begin == 0) & (0 < s.z.input);
     if first {
-        return tap_on(d, s.y, p, k);
+        return D::tap(s.y, p, k);
     }
-    folded_tap(d, s.z, s.y, p, k)
+    folded_tap::<D>(s.z, s.y, p, k)
 }

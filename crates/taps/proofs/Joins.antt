@@ -1,7 +1,7 @@
 -- A tap finds the one position that it joins; two axes are one.
 use Rattle.std.specs.Prelude.{None, Option, Some}
 use Prim.Native.Nat.{ℕ, ◌+◌, ◌-◌, ◌*◌, ◌/◌, ◌%◌, ◌≤◌, ◌<◌}
-use native.Mathlib.Nat.{div-add-mod', mul-mod_left, mul-div_cancel, div-lt_iff_lt-mul, mod-lt, zero-add, zero-mul, zero-div, zero-mod}
+use native.Mathlib.Nat.{div-add-mod', mul-mod_left, mul-div_cancel, div-lt_iff_lt-mul, mod-lt, zero-add, zero-mul}
 use native.Mathlib.Omega.{arith}
 use mathlib.Core.Path.{◌≡◌, refl, sym, ap, ap₂, ◌∙◌, subst, fun_ext}
 use mathlib.Core.Bool.{Bool, true, false, cond, ◌&&◌, false≢true}
@@ -10,10 +10,8 @@ use borrow.Author.Tests.{ltb-true, ltb-false, leb-true, leb-false, eqb-true, lt-
 use Rattle.layer.proofs.Tests.{and_both, and_of, both_ways}
 use Rattle.layer.proofs.Places.{place_div, place_mod, place_within}
 use Rattle.sizes.specs.declared.Span.{Span}
-use Rattle.taps.specs.declared.Direction.{Direction}
-use Rattle.taps.specs.declared.Direction.TheVariants.{Forward, Backward}
 use Rattle.taps.specs.Taps.{tap_position, tap_inside}
-use Rattle.taps.specs.Joins.{joins, forward, position_in, position_by, reach_of, backward, tap_on, both, is_at, Finds, Below}
+use Rattle.taps.specs.Joins.{joins, forward, position_in, position_by, reach_of, backward, both, is_at, Finds, Below}
 
 -- ---- by a step: a distance that is a multiple of it, or is not
 pub multiple : (size stride distance : ℕ) → distance % stride ≡ 0 → position_by size stride distance ≡ position_in size (distance / stride)
@@ -56,10 +54,6 @@ below_more n m None h k = tt
 finds_none : (n : ℕ) (test : ℕ → Bool) → ((r : ℕ) → r < n → test r ≡ true → ⊥) → Finds n test None
 unfolding Finds
 finds_none n f h = h
-
-outside_below : (n : ℕ) → Below n None
-unfolding Below
-outside_below n = tt
 
 -- ---- from an output position
 pub forward_finds : (s : Span) (p k : ℕ) → Finds s.input (joins s p k) (forward s p k)
@@ -113,42 +107,6 @@ reach_finds n d s t k h = go (leb (k * d) t) refl
 pub backward_finds : (s : Span) (q k : ℕ) → 1 ≤ s.stride → Finds s.input (λ p. joins s p k q) (backward s q k)
 unfolding backward
 backward_finds s q k h = reach_finds s.input s.dilation s.stride (q + s.begin) k h
-
--- ---- inside the input, whatever the stride
-pub forward_below : (s : Span) (p k : ℕ) → Below s.input (forward s p k)
-forward_below s p k = finds_below _ _ (forward s p k) (forward_finds s p k)
-
-position_below : (n s d : ℕ) → Below n (position_by n s d)
-unfolding position_by Below
-position_below n s d = go (eqb (d % s) 0) (ltb (d / s) n) refl
-  where
-    go : (a b : Bool) → ltb (d / s) n ≡ b → Below n (cond a (cond b (Some (d / s)) None) None)
-    go true true e = ltb-true (d / s) n e
-    go true false e = tt
-    go false b e = tt
-
-pub reach_below : (n d s t k : ℕ) → Below n (reach_of n d s t k)
-unfolding reach_of
-reach_below n d s t k = go (leb (k * d) t)
-  where
-    go : (b : Bool) → Below n (cond b (position_by n s (t - k * d)) None)
-    go true = position_below n s (t - k * d)
-    go false = outside_below n
-
-pub backward_below : (s : Span) (q k : ℕ) → Below s.input (backward s q k)
-unfolding backward
-backward_below s q k = reach_below s.input s.dilation s.stride (q + s.begin) k
-
--- in either direction
-pub tap_below : (d : Direction) (s : Span) (p k : ℕ) → Below s.input (tap_on d s p k)
-tap_below Forward s p k = forward_below s p k
-tap_below Backward s p k = backward_below s p k
-
--- without padding tap 0 of position 0 lies at position 0
-pub first_tap_lem : (d : Direction) (s : Span) → s.begin ≡ 0 → 0 < s.input → tap_on d s 0 0 ≡ Some 0
-unfolding forward backward reach_of position_by
-first_tap_lem Forward s e h = rw e (simp (zero-mul, lt-ltb 0 s.input h))
-first_tap_lem Backward s e h = rw e (simp (zero-mul, zero-mod, zero-div, lt-ltb 0 s.input h))
 
 -- ---- two axes as one; so three
 pub both_finds : (n m : ℕ) (f g : ℕ → Bool) (a b : Option ℕ) → 1 ≤ m → Finds n f a → Finds m g b → Finds (n * m) (λ q. f (q / m) && g (q % m)) (both m a b)

@@ -1,8 +1,6 @@
 -- Where a tap lies along an axis: one equation, read from an output position and from an input position; and along two axes taken as one.
 use Rattle.std.specs.Prelude.{ℕ, ◌+◌, ◌-◌, ◌*◌, ◌/◌, ◌%◌, ◌<◌, ◌≡◌, Bool, true, false, cond, leb, ltb, eqb, None, Option, Some}
 use Rattle.sizes.specs.declared.Span.{Span}
-use Rattle.taps.specs.declared.Direction.{Direction}
-use Rattle.taps.specs.declared.Direction.TheVariants.{Forward, Backward}
 use Rattle.taps.specs.Taps.{tap_position, tap_inside}
 
 -- Tap k joins the positions p and q of an axis where p·stride + k·dilation = q + begin.
@@ -30,11 +28,6 @@ reach_of size dilation stride t k = cond (leb (k * dilation) t) (position_by siz
 -- The p that tap k joins with q, where it lies inside the input: transposed convolution.
 unfoldable pub backward : Span → ℕ → ℕ → Option ℕ
 backward s q k = reach_of s.input s.dilation s.stride (q + s.begin) k
-
--- either
-abbrev pub tap_on : Direction → Span → ℕ → ℕ → Option ℕ
-tap_on Forward = forward
-tap_on Backward = backward
 
 -- "Row-major, last axis fastest.": two axes as one, the inner of `size` positions. A tap lies inside where it does on both: "likewise for depths and
 -- columns", "and likewise for z and x".

@@ -1,2 +1,3 @@
 pub mod Taps
 pub mod Joins
+pub mod Directions

@@ -4,9 +4,12 @@
 
 ghost use Rattle.std.specs.Prelude.{◌≡◌, ◌+◌, ◌-◌, ◌*◌, ◌<◌};
 ghost use Rattle.taps.specs.Taps.{tap_position, tap_inside, position_of, turned, some_missed, Exactly, SameTaps, Alike, AllBefore, steps_to};
-ghost use Rattle.taps.specs.Joins.{position_in, position_by, forward, backward, tap_on};
+ghost use Rattle.taps.specs.Joins.{position_in, position_by, forward, backward};
 
 use sizes::{Span, ceil_div};
+
+// `Forward` and `Backward` stand in a module of their own: beside `forward` and `backward` their names would differ in case alone, which the check refuses.
+pub mod direction;
 
 // The taps of one output position that lie inside the input: `count` of them, from `first` on.
 #[derive(Clone, Copy)]
@@ -20,13 +23,6 @@ pub struct Taps {
 pub struct Run {
     pub taps: Taps,
     pub end: usize,
-}
-
-// Which way a tap is read: from an output position (convolution, pooling), or as transposed convolution does.
-#[derive(Clone, Copy)]
-pub enum Direction {
-    Forward,
-    Backward,
 }
 
 // ---- where a tap lies
@@ -82,16 +78,6 @@ pub fn backward(s: Span, q: u32, k: u32) -> Option<usize>
     let from = q as usize + s.begin as usize;
     let distance = from.checked_sub(k as usize * s.dilation as usize)?;
     position_by(distance, s.stride as usize, s.input)
-}
-
-// The input position of tap k from output position p, in either direction.
-pub fn tap_on(d: Direction, s: Span, p: u32, k: u32) -> Option<usize>
-    ensures { result ≡ tap_on d s p k }
-{
-    match d {
-        Direction::Forward => forward(s, p, k),
-        Direction::Backward => backward(s, p, k),
-    }
 }
 
 // ---- taps inside the input

@@ -7,7 +7,8 @@ use Prim.Native.Nat.{ℕ, ◌+◌, ◌*◌, ◌≤◌, ◌<◌}
 use lib.ListN.{length}
 use lib.Ieee.{Float}
 use Rattle.taps.specs.Joins.{reach_of, backward, Below}
-use Rattle.taps.proofs.Joins.{below_at, reach_below}
+use Rattle.taps.specs.Directions.{reach_below}
+use Rattle.taps.proofs.Joins.{below_at}
 use Rattle.shape.specs.declared.Shape.{Shape}
 use Rattle.shape.specs.Volumes.{input_rows, kernel_rows, on_rows}
 use Rattle.tensor.specs.Table.{read}

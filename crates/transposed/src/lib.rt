@@ -19,7 +19,7 @@ use layer::{Layer, Op, Refusal};
 use rows::{add_spread, start};
 use shape::{Shape, input_rows, kernel_rows, out_rows, row_tap};
 use sizes::{Span, ceil_div};
-use taps::Direction;
+use taps::direction::Backward;
 
 // The first taps of a row of outputs: their plane of the input and of the kernel, and the row's number in its plane.
 #[derive(Clone, Copy)]
@@ -110,7 +110,7 @@ impl OutputRow<'_> {
     {
         let s = self.tensors.shape;
         let f = self.first;
-        let tap = row_tap(Direction::Backward, s, f.row, k as u32);
+        let tap = row_tap::<Backward>(s, f.row, k as u32);
         let Some(y) = tap else {
             return;
         };

@@ -4,7 +4,8 @@ use mathlib.Core.Path.{◌≡◌, sym, ap₂, ◌∙◌}
 use Prim.Native.Nat.{ℕ, ◌+◌, ◌%◌}
 use native.Mathlib.Omega.{arith}
 use Rattle.taps.specs.Joins.{forward}
-use Rattle.taps.proofs.Joins.{forward_below, below_at}
+use Rattle.taps.specs.Directions.{forward_below}
+use Rattle.taps.proofs.Joins.{below_at}
 use Rattle.sums.specs.Taps.{add_tap}
 use Rattle.sums.proofs.Sums.{zero_is}
 use Rattle.halved.specs.declared.Output.{Output}

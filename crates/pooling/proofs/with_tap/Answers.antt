@@ -1,7 +1,8 @@
 -- The tap's column lies in the row.
 use mathlib.Core.Path.{sym, ◌∙◌}
 use native.Mathlib.Omega.{arith}
-use Rattle.taps.proofs.Joins.{forward_below, below_at}
+use Rattle.taps.specs.Directions.{forward_below}
+use Rattle.taps.proofs.Joins.{below_at}
 use Rattle.pooling.proofs.with_tap.Goals as goal
 
 pub offset_bounds-row-c : goal.offset_bounds-row-c

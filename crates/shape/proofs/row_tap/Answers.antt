@@ -5,10 +5,10 @@ use Rattle.shape.proofs.Volumes.{first_depth}
 use Rattle.shape.proofs.row_tap.Goals as goal
 
 pub returns-then-first : goal.returns-then-first
-returns-then-first c =
+returns-then-first g c =
     let a = c.args in
-    c.tap_on.ensures ∙ first_depth a.d a.s a.p a.k c.if-first.true
+    c.tap.ensures ∙ first_depth g.met.D.Direction.laws a.s a.p a.k c.if-first.true
 
 pub returns : goal.returns
 unfolding on_rows
-returns c = c.folded_tap.ensures
+returns g c = c.folded_tap.ensures
