@@ -66,8 +66,9 @@ fn kept_word(kept: bool) -> &'static str {
 
 // ---- the operators
 
+// The number of an answer; 0 where nothing is refused.
 fn number_of(answer: Result<(), Refusal>) -> u32 {
-    answer.map_or_else(|refusal| refusal.number(), |_| 0)
+    answer.err().map_or(0, |refusal| refusal.number())
 }
 
 // An operator with one output: the answer, and the one element, or that it is as it was.
@@ -96,6 +97,7 @@ fn print_best(rt: &impl Print, value: f32, index: i64) -> io::Result<()> {
     }
 }
 
+// Apart from `run_sum`: its two outputs differ in type, and are printed as a pair.
 fn run_max_pool(rt: &impl Print, layer: Layer) -> io::Result<()> {
     let mut values = [MARK];
     let mut indices = [INDEX_MARK];
