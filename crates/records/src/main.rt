@@ -11,15 +11,14 @@ ghost use Rattle.std.specs.Prelude.{◌≤◌};
 use cases::outputs::{is_kept, whole_number};
 use cases::{after_line, after_sheet, value_of};
 use convolution::convolution;
-use layer::{Axis, Layer, Rounding, SheetRefusal};
-use lines::Read;
+use layer::{Axis, Layer, Refusal, Rounding, SheetRefusal};
 use pooling::max_pool;
 use sheet::{read_sheet, write_sheet};
 use std::fmt::Display;
 use std::{fmt, io};
 use sums::Profile;
 use tensor::pick_plane;
-use text::{Items, Number, Numbers, part_of, read_number, read_numbers};
+use text::{Items, part_of, read_number, read_numbers};
 use transposed::transposed;
 
 // What stands in outputs and in the buffer before a call; no case expects one of them.
@@ -67,26 +66,26 @@ fn kept_word(kept: bool) -> &'static str {
 
 // ---- the operators
 
-// The one element of an output, or that it is as it was.
-fn print_output(rt: &impl Print, number: u32, output: f32) -> io::Result<()> {
-    if output == MARK {
-        return print!(rt; "{number} kept");
+// The number of an answer; 0 where nothing is refused.
+fn number_of(answer: Result<(), Refusal>) -> u32 {
+    answer.err().map_or(0, |refusal| refusal.number())
+}
+
+// An operator with one output: the answer, and the one element, or that it is as it was.
+fn run_sum<F: Fn(&mut [f32]) -> Result<(), Refusal>>(
+    rt: &impl Print,
+    name: &str,
+    call: F,
+) -> io::Result<()>
+    requires { F.IsAlwaysCallable call }
+{
+    let mut output = [MARK];
+    let number = number_of(call(&mut output));
+    print!(rt; " {name}={number} ")?;
+    if output[0] == MARK {
+        return print!(rt; "kept");
     }
-    print!(rt; "{number} {}", Value(output))
-}
-
-fn run_convolution(rt: &impl Print, name: &str, profile: Profile, layer: Layer) -> io::Result<()> {
-    let mut output = [MARK];
-    let answer = convolution(profile, layer, &[INPUT], &[KERNEL], &mut output);
-    print!(rt; " {name}=")?;
-    print_output(rt, answer.number, output[0])
-}
-
-fn run_transposed(rt: &impl Print, layer: Layer) -> io::Result<()> {
-    let mut output = [MARK];
-    let answer = transposed(layer, &[INPUT], &[KERNEL], &mut output);
-    print!(rt; " transposed=")?;
-    print_output(rt, answer.number, output[0])
+    print!(rt; "{}", Value(output[0]))
 }
 
 // A value with its index.
@@ -98,11 +97,12 @@ fn print_best(rt: &impl Print, value: f32, index: i64) -> io::Result<()> {
     }
 }
 
+// Apart from `run_sum`: its two outputs differ in type, and are printed as a pair.
 fn run_max_pool(rt: &impl Print, layer: Layer) -> io::Result<()> {
     let mut values = [MARK];
     let mut indices = [INDEX_MARK];
     let answer = max_pool(layer, &[INPUT], &mut values, &mut indices);
-    print!(rt; " maxpool={} ", answer.number)?;
+    print!(rt; " maxpool={} ", number_of(answer))?;
     print_best(rt, values[0], indices[0])
 }
 
@@ -153,10 +153,7 @@ fn run_write(rt: &impl Print, layer: Layer, room: usize) -> io::Result<()>
 
 // The number that a text spells; else the other number.
 fn number_or(t: &[u8], other: u32) -> u32 {
-    match read_number(t) {
-        Number::Value(n) => n,
-        Number::NoNumber => other,
-    }
+    read_number(t).unwrap_or(other)
 }
 
 // The length in the line at a place, up to so many.
@@ -236,9 +233,17 @@ fn changed(l: Layer, change: &[u8]) -> Layer {
 fn run_layer(rt: &impl Print, layer: Layer, room: usize) -> io::Result<()>
     requires { room ≤ 480 }
 {
-    run_convolution(rt, "convolution", Profile::Running, layer)?;
-    run_convolution(rt, "halved", Profile::Halved, layer)?;
-    run_transposed(rt, layer)?;
+    run_sum(rt, "convolution", |output| {
+        convolution(Profile::Running, layer, &[INPUT], &[KERNEL], output)
+    })?;
+    run_sum(rt, "halved", |output| {
+        convolution(Profile::Halved, layer, &[INPUT], &[KERNEL], output)
+    })?;
+    run_sum(
+        rt,
+        "transposed",
+        |output| transposed(layer, &[INPUT], &[KERNEL], output),
+    )?;
     run_max_pool(rt, layer)?;
     run_write(rt, layer, room)
 }
@@ -249,12 +254,12 @@ fn run_record(rt: &impl Print, s: &[u8], at: usize) -> io::Result<usize> {
     let change = after_sheet(s, sheet);
     let room = after_line(s, change);
     match read_sheet(part_of(s, sheet, change)) {
-        Read::Refused(_, _) => print!(rt; " no sheet")?,
-        Read::Sheet(layer) => run_layer(
+        Ok(layer) => run_layer(
             rt,
             changed(layer, value_of(s, change, b"")),
             length_at(s, room, b"room=", 480),
         )?,
+        Err(_) => print!(rt; " no sheet")?,
     }
     println!(rt)?;
     Ok(after_line(s, room))
@@ -314,8 +319,7 @@ fn run_plane(rt: &impl Print, s: &[u8], at: usize) -> io::Result<usize> {
     let channel = after_line(s, image);
     let depth = after_line(s, channel);
     match read_numbers(value_of(s, sizes, b"sizes="), 5) {
-        Numbers::NoNumbers => print!(rt; " no sizes")?,
-        Numbers::These(items) => pick(
+        Some(items) => pick(
             rt,
             items,
             length_at(s, length, b"length=", 64),
@@ -323,6 +327,7 @@ fn run_plane(rt: &impl Print, s: &[u8], at: usize) -> io::Result<usize> {
             number_or(value_of(s, channel, b"channel="), 0),
             number_or(value_of(s, depth, b"depth="), 0),
         )?,
+        None => print!(rt; " no sizes")?,
     }
     println!(rt)?;
     Ok(after_line(s, depth))
