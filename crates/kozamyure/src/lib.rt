@@ -21,7 +21,7 @@ use report::{OutputSizes, output_sizes};
 use shape::{Judged, judge};
 use sheet::{read_sheet, write_sheet};
 use sums::Profile;
-use tensor::{find_peak, plane_part};
+use tensor::{Dimensions, PlaneIndex, find_peak, plane_part};
 use transposed::transposed;
 
 // An operator's answer: the line for numbers 20 to 23; for 9 the tensor, the place of its first bad element and the number of its bad elements.
@@ -302,7 +302,13 @@ pub extern "C" fn koza_plane(
 ) -> PlanePart
     ensures { result ≡ plane_part (part_of (length tensor.now) n c z y x image channel depth) }
 {
-    let part = plane_part(tensor.len(), n, c, z, y, x, image, channel, depth);
+    let sizes = Dimensions { n, c, z, y, x };
+    let at = PlaneIndex {
+        image,
+        channel,
+        depth,
+    };
+    let part = plane_part(tensor.len(), sizes, at);
     PlanePart {
         start: part.start,
         length: part.length,
