@@ -32,6 +32,7 @@ struct Output {
 }
 
 // Output number j of all outputs.
+#[tactic(auto, using(crate::proofs::Outputs::row_bounds))]
 fn output_at(s: Shape, j: usize) -> Output
     requires { Grouped s × (j < s.outputs) }
     ensures { result ≡ output_at s j }
@@ -99,6 +100,7 @@ fn halved_sum(input: &[f32], kernel: &[f32], o: Output, first: usize, count: usi
 }
 
 // Every output, one after another.
+#[tactic(auto, using(crate::proofs::Outputs::taps_1))]
 fn fill(s: Shape, input: &[f32], kernel: &[f32], output: &mut [f32])
     requires fitting { Fitting s input.now kernel.now }
     requires output_len { length output.old ≡ s.outputs }

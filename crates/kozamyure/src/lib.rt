@@ -20,7 +20,7 @@ use report::output_sizes;
 use shape::judge;
 use sheet::{read_sheet, write_sheet};
 use sums::Profile;
-use tensor::{Part, Peak, find_peak, plane_part};
+use tensor::{Dimensions, Part, Peak, PlaneIndex, find_peak, plane_part};
 use transposed::transposed;
 
 // An operator's answer: the line for numbers 20 to 23; for 9 the tensor, the place of its first bad element and the number of its bad elements.
@@ -375,7 +375,13 @@ pub extern "C" fn koza_plane(
 ) -> PlanePart
     ensures { result ≡ plane_part (part_of (length tensor.now) n c z y x image channel depth) }
 {
-    PlanePart::from(plane_part(tensor.len(), n, c, z, y, x, image, channel, depth))
+    let sizes = Dimensions { n, c, z, y, x };
+    let at = PlaneIndex {
+        image,
+        channel,
+        depth,
+    };
+    PlanePart::from(plane_part(tensor.len(), sizes, at))
 }
 
 #[unsafe(no_mangle)]

@@ -16,6 +16,7 @@ use sizes::Span;
 use taps::{taps_inside, turned};
 
 // The pairs of an output position and a tap of it that lies inside the input: position by position.
+#[tactic(auto, using(crate::proofs::Sums::sum_none), unfolding(crate::specs::Axes::pairs_inside))]
 fn pairs_by_position(s: Span) -> usize
     ensures { result ≡ pairs_inside s }
 {
@@ -28,6 +29,7 @@ fn pairs_by_position(s: Span) -> usize
 }
 
 // The same: position by position or, where there are fewer taps than positions, tap by tap.
+#[tactic(auto, using(crate::proofs::Products::axis_turned))]
 fn pairs_inside(s: Span) -> usize
     ensures { result ≡ pairs_inside s }
 {
@@ -38,6 +40,7 @@ fn pairs_inside(s: Span) -> usize
 }
 
 // The products of a convolution over an accepted shape.
+#[tactic(auto, using(crate::proofs::Products::by_axes, crate::proofs::Products::bounds))]
 fn products_over(s: Shape) -> usize
     requires { Grouped s }
     ensures { result ≡ products s }

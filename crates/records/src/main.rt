@@ -17,7 +17,7 @@ use sheet::{read_sheet, write_sheet};
 use std::fmt::Display;
 use std::{fmt, io};
 use sums::Profile;
-use tensor::pick_plane;
+use tensor::{Dimensions, PlaneIndex, pick_plane};
 use text::{Items, part_of, read_number, read_numbers};
 use transposed::transposed;
 
@@ -297,17 +297,19 @@ fn pick(
     requires { length ≤ 64 }
 {
     let tensor = places();
-    let plane = pick_plane(
-        &tensor[..length],
-        sizes.a,
-        sizes.b,
-        sizes.c,
-        sizes.d,
-        sizes.e,
+    let dimensions = Dimensions {
+        n: sizes.a,
+        c: sizes.b,
+        z: sizes.c,
+        y: sizes.d,
+        x: sizes.e,
+    };
+    let at = PlaneIndex {
         image,
         channel,
         depth,
-    );
+    };
+    let plane = pick_plane(&tensor[..length], dimensions, at);
     print_plane(rt, plane)
 }
 

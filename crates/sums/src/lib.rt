@@ -12,6 +12,7 @@ pub enum Profile {
 }
 
 // One tap more: the product rounds once and the sum rounds once.
+#[tactic(auto, unfolding(crate::specs::Taps::add_tap))]
 pub fn add_product(sum: f32, value: f32, weight: f32) -> f32
     ensures { result ≡ add_tap sum (pair value weight) }
 {

@@ -1,7 +1,7 @@
 // Tensors: the element check, the best of a window, the plane picker and the peak finder.
 #![tactic(auto)]
 
-ghost use Rattle.std.specs.Prelude.{◌+◌, ◌*◌, ◌≤◌, ◌≡◌, length, not, position};
+ghost use Rattle.std.specs.Prelude.{◌+◌, ◌*◌, ◌≤◌, ◌≡◌, true, length, not, position};
 ghost use Rattle.tensor.specs.Element.{element_ok, bad_count, element_check, bad_elements_of};
 ghost use Rattle.tensor.specs.Window.{better_of, best_of, up_to};
 ghost use Rattle.tensor.specs.Plane.{sizes_ok, has_plane, part_of, plane_of};
@@ -95,32 +95,57 @@ pub fn better(w: Window, v: f32, p: usize) -> Window
 
 // ---- the plane picker
 
-// Number 1's limits of the five sizes.
-fn sizes_ok(n: u32, c: u32, z: u32, y: u32, x: u32) -> bool
-    ensures { result ≡ sizes_ok n c z y x }
-{
-    images_ok(n) & (channels_ok(c) & (size_ok(z) & (size_ok(y) & size_ok(x))))
+// The five sizes of a tensor [n, c, z, y, x]: its images, channels, depths, rows and columns.
+#[derive(Clone, Copy, PartialEq, Eq)]
+pub struct Dimensions {
+    pub n: u32,
+    pub c: u32,
+    pub z: u32,
+    pub y: u32,
+    pub x: u32,
 }
 
-// Whether a slice of len elements is a tensor [n, c, z, y, x] with this image, channel and depth.
-fn has_plane(
-    len: usize,
-    n: u32,
-    c: u32,
-    z: u32,
-    y: u32,
-    x: u32,
-    image: u32,
-    channel: u32,
-    depth: u32,
-) -> bool
-    ensures { result ≡ has_plane len n c z y x image channel depth }
-{
-    if !sizes_ok(n, c, z, y, x) {
-        return false;
+// Which plane of a tensor: that of an image, a channel and a depth.
+#[derive(Clone, Copy, PartialEq, Eq)]
+pub struct PlaneIndex {
+    pub image: u32,
+    pub channel: u32,
+    pub depth: u32,
+}
+
+impl Dimensions {
+    // Number 1's limits of the five sizes.
+    #[tactic(auto, unfolding(crate::specs::Plane::sizes_ok))]
+    fn within_limits(self) -> bool
+        ensures { result ≡ sizes_ok self.n self.c self.z self.y self.x }
+    {
+        images_ok(self.n)
+            && channels_ok(self.c)
+            && size_ok(self.z)
+            && size_ok(self.y)
+            && size_ok(self.x)
     }
-    let count = n as usize * c as usize * z as usize * y as usize * x as usize;
-    (len == count) & ((image < n) & ((channel < c) & (depth < z)))
+
+    // How many elements a tensor of these sizes has.
+    #[tactic(auto, using(crate::proofs::Plane::sizes_in))]
+    fn elements(self) -> usize
+        requires within { sizes_ok self.n self.c self.z self.y self.x ≡ true }
+        ensures { result ≡ self.n * self.c * self.z * self.y * self.x }
+    {
+        self.n as usize * self.c as usize * self.z as usize * self.y as usize * self.x as usize
+    }
+
+    // Whether a slice of len elements is a tensor of these sizes with this plane.
+    #[tactic(auto, unfolding(crate::specs::Plane::has_plane))]
+    fn has_plane(self, len: usize, at: PlaneIndex) -> bool
+        ensures { result ≡ has_plane len self.n self.c self.z self.y self.x at.image at.channel at.depth }
+    {
+        self.within_limits()
+            && len == self.elements()
+            && at.image < self.n
+            && at.channel < self.c
+            && at.depth < self.z
+    }
 }
 
 // A part of a slice: where it begins and how long it is, in elements.
@@ -130,56 +155,35 @@ pub struct Part {
     pub length: usize,
 }
 
-// The part of a tensor slice of len elements that is the plane of an image, a channel and a depth; its empty part where there is none.
-pub fn plane_part(
-    len: usize,
-    n: u32,
-    c: u32,
-    z: u32,
-    y: u32,
-    x: u32,
-    image: u32,
-    channel: u32,
-    depth: u32,
-) -> Part
-    ensures value { result ≡ part_of len n c z y x image channel depth }
+// The part of a tensor slice of len elements that is the plane at an index; its empty part where there is none.
+#[tactic(auto, using(crate::proofs::Plane::plane_in))]
+pub fn plane_part(len: usize, sizes: Dimensions, at: PlaneIndex) -> Part
+    ensures value { result ≡ part_of len sizes.n sizes.c sizes.z sizes.y sizes.x at.image at.channel at.depth }
     ensures length_bound { result.start + result.length ≤ len }
 {
-    if !has_plane(len, n, c, z, y, x, image, channel, depth) {
+    if !sizes.has_plane(len, at) {
         return Part {
             start: 0,
             length: 0,
         };
     }
-    let plane = (image as usize * c as usize + channel as usize) * z as usize + depth as usize;
-    let size = y as usize * x as usize;
-    let start = plane * size;
+    let channel = at.image as usize * sizes.c as usize + at.channel as usize;
+    let plane = channel * sizes.z as usize + at.depth as usize;
+    let size = sizes.y as usize * sizes.x as usize;
     Part {
-        start,
+        start: plane * size,
         length: size,
     }
 }
 
-// The plane of an image, a channel and a depth, as that part of the caller's own slice.
-pub fn pick_plane(
-    tensor: &[f32],
-    n: u32,
-    c: u32,
-    z: u32,
-    y: u32,
-    x: u32,
-    image: u32,
-    channel: u32,
-    depth: u32,
-) -> &[f32]
-    ensures contents { result.now ≡ plane_of tensor.now n c z y x image channel depth }
+// The plane at an index, as that part of the caller's own slice.
+pub fn pick_plane(tensor: &[f32], sizes: Dimensions, at: PlaneIndex) -> &[f32]
+    ensures contents { result.now ≡ plane_of tensor.now sizes.n sizes.c sizes.z sizes.y sizes.x at.image at.channel at.depth }
     ensures block { result.ref_ptr.0 ≡ tensor.entry.ref_ptr.0 }
-    ensures offset { result.ref_ptr.1 ≡ tensor.entry.ref_ptr.1 + (part_of (length tensor.now) n c z y x image channel depth).start * 4 }
+    ensures offset { result.ref_ptr.1 ≡ tensor.entry.ref_ptr.1 + (part_of (length tensor.now) sizes.n sizes.c sizes.z sizes.y sizes.x at.image at.channel at.depth).start * 4 }
 {
-    let part = plane_part(tensor.len(), n, c, z, y, x, image, channel, depth);
-    let start = part.start;
-    let end = start + part.length;
-    &tensor[start..end]
+    let part = plane_part(tensor.len(), sizes, at);
+    &tensor[part.start..part.start + part.length]
 }
 
 // ---- the peak finder
@@ -196,8 +200,7 @@ pub struct Peak {
 fn wrong_length(len: usize, width: usize) -> bool
     ensures { result ≡ wrong_length len width }
 {
-    let rest = remainder(len, width);
-    (width == 0) | ((len == 0) | (rest != 0))
+    width == 0 || len == 0 || !len.is_multiple_of(width)
 }
 
 // The best of a whole plane.

@@ -3,27 +3,12 @@ use mathlib.Core.Path.{◌≡◌, sym, ◌∙◌}
 use native.Mathlib.Omega.{arith}
 use Rattle.sums.proofs.Halved.{halved_one, halved_cut}
 use Rattle.halved.specs.Outputs.{output_taps}
-use Rattle.halved.proofs.Outputs.{held_fewer}
 use Rattle.halved.proofs.+halved_sum.Goals as goal
-
-pub single-requires : goal.single-requires
-single-requires t c = held_fewer c.args.o _ _ _ _ (omega (arith, c.requires.count_1)) c.requires.held
 
 pub returns-then-count-lt2 : goal.returns-then-count-lt2
 returns-then-count-lt2 t c =
     let n : c.args.count ≡ 1 = omega (arith, c.requires.count_1) in
     c.single.ensures ∙ rw n (sym (halved_one (output_taps c.args.input.now c.args.kernel.now c.args.o) c.args.first))
-
-pub halved_sum-a-requires : goal.halved_sum-a-requires
-halved_sum-a-requires t c =
-    (omega (arith, c.requires.count_1), (omega (arith, c.requires.count_1), held_fewer c.args.o _ _ _ _ (omega arith) c.requires.held))
-
-pub overflow_add-first : goal.overflow_add-first
-overflow_add-first t c = omega (arith, c.requires.held.weights_in, c.requires.held.weights_max)
-
-pub halved_sum-b-requires : goal.halved_sum-b-requires
-halved_sum-b-requires t c =
-    (omega (arith, c.requires.count_1), (omega (arith, c.requires.count_1), held_fewer c.args.o _ _ _ _ (omega arith) c.requires.held))
 
 pub returns : goal.returns
 returns t c =

@@ -1,14 +1,11 @@
 -- One turn is the halved sum of one output more.
 use Rattle.std.proofs.Common.{arith, ◌∙◌, ◌<◌}
 use Rattle.tensor.proofs.Table.{filled_none, filled_more}
-use Rattle.halved.proofs.Outputs.{taps_1, held, held_fewer, halved_output}
+use Rattle.halved.proofs.Outputs.{held, held_fewer, halved_output}
 use Rattle.halved.proofs.fill.Goals as goal
 
 pub loop-j-init : goal.loop-j-init
 loop-j-init c = filled_none _ _
-
-pub halved_sum-requires-clause-count_1 : goal.halved_sum-requires-clause-count_1
-halved_sum-requires-clause-count_1 c = omega (arith, taps_1 c.args.s _ _ c.requires.fitting)
 
 pub halved_sum-requires-clause-held : goal.halved_sum-requires-clause-held
 halved_sum-requires-clause-held c =
