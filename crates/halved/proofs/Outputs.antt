@@ -10,6 +10,7 @@ use lib.ListN.{length}
 use lib.Ieee.{Float}
 use Rattle.layer.proofs.Places.{place_within}
 use Rattle.taps.specs.Joins.{forward}
+use Rattle.taps.proofs.Joins.{forward_below, below_at}
 use Rattle.taps.proofs.Exact.{both_outer, both_inner, both_at}
 use Rattle.shape.specs.declared.Shape.{Shape}
 use Rattle.shape.specs.Facts.{Grouped}
@@ -92,6 +93,22 @@ tap_bounds o {t} h lz ly lx =
       row_max = omega (arith, h.inputs_in, h.inputs_max);
       place = omega (arith, h.inputs_in);
     }
+
+-- by what the code finds along each axis
+pub tap_lies : (o : Output) (t : ℕ) {inputs weights iz iy ix : ℕ} {z y x : Option ℕ}
+    → Held o (t + 1) inputs weights
+    → z ≡ forward o.z o.depth (depth_of_tap o t % o.z.kernel)
+    → z ≡ Some iz
+    → y ≡ forward o.y o.row (row_of_tap o t % o.y.kernel)
+    → y ≡ Some iy
+    → x ≡ forward o.x o.column (t % o.x.kernel)
+    → x ≡ Some ix
+    → TapBounds o t inputs iz iy ix
+tap_lies o t h fz ez fy ey fx ex =
+    tap_bounds o h
+    (below_at _ _ _ (forward_below _ _ _) (sym fz ∙ ez))
+    (below_at _ _ _ (forward_below _ _ _) (sym fy ∙ ey))
+    (below_at _ _ _ (forward_below _ _ _) (sym fx ∙ ex))
 
 -- fewer taps
 pub held_fewer : (o : Output) (taps fewer inputs weights : ℕ) → fewer ≤ taps → Held o taps inputs weights → Held o fewer inputs weights
