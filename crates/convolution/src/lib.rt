@@ -24,7 +24,7 @@ use sizes::Span;
 use sums::Profile;
 use taps::{Taps, outputs_inside, position_of, run_from, taps_inside};
 
-// The lent tensors of a call, with the shape that they fit.
+// The lent tensors of a call, with the shape that they fit. `transposed` has its own: methods stand in the crate of their type, and these fill by other sums.
 #[derive(Clone, Copy)]
 struct Tensors<'a> {
     shape: Shape,
@@ -264,7 +264,8 @@ impl OutputRow<'_> {
         pair.add_span(c, out);
     }
 
-    // ---- all kernel rows inside the input
+    // ---- all kernel rows inside the input: three loops of one call each. A function that takes the step as a closure would ask for the same invariant, as a law of
+    // the closure, at each of its calls.
 
     // The taps of a kernel depth more for each of these outputs: row by row.
     fn add_rows(&self, channel: usize, depth: u32, c: Columns, out: &mut [f32])
@@ -401,7 +402,7 @@ fn with_running_sums(
     Ok(())
 }
 
-// Convolution by either profile: checks 1 to 9, and only then every output. No call is asked to be valid: each is answered.
+// Convolution by either profile, which is a value, for "the profile is named in the call" (C-17): checks 1 to 9, and only then every output. No call is asked to be valid: each is answered.
 pub fn convolution(
     profile: Profile,
     layer: Layer,

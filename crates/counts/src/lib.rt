@@ -6,7 +6,7 @@ ghost use Rattle.std.specs.Prelude.{◌*◌, ◌/◌, ◌%◌, ◌≡◌, drop};
 ghost use Rattle.counts.specs.Counts.{capped};
 ghost use Rattle.counts.specs.Index.{dimensions_before, product, modulus};
 
-use layer::{uses_y, uses_z};
+use layer::{Layer, uses_y, uses_z};
 
 // The largest count that is told apart from larger ones: one past the limit of 16,777,216.
 pub const CAP: usize = 16777217;
@@ -79,17 +79,17 @@ fn product_from(dimensions: &[u32], k: usize) -> usize
         .fold(1, |product, d| times(product, d as usize))
 }
 
-// What places are counted modulo, held at the cap.
+// What the places of a layer's input are counted modulo, held at the cap.
 #[tactic(auto, unfolding(crate::specs::Index::modulus))]
-pub fn modulus_of(axes: u32, axis: i32, n: u32, c: u32, z: u32, y: u32, x: u32) -> usize
-    ensures { result ≡ capped (modulus axes axis n c z y x) }
+pub fn modulus_of(l: Layer) -> usize
+    ensures { result ≡ capped (modulus l.axes l.axis l.n l.c l.z.input l.y.input l.x.input) }
 {
-    let before = dimensions_before(axes as usize + 2, axis);
-    if uses_z(axes) {
-        return product_from(&[n, c, z, y, x], before);
+    let before = dimensions_before(l.axes as usize + 2, l.axis);
+    if uses_z(l.axes) {
+        return product_from(&[l.n, l.c, l.z.input, l.y.input, l.x.input], before);
     }
-    if uses_y(axes) {
-        return product_from(&[n, c, y, x], before);
+    if uses_y(l.axes) {
+        return product_from(&[l.n, l.c, l.y.input, l.x.input], before);
     }
-    product_from(&[n, c, x], before)
+    product_from(&[l.n, l.c, l.x.input], before)
 }

@@ -66,7 +66,7 @@ fn kernel_of(op: Op, items: Items) -> Kernel
     }
 }
 
-// The numbers of a list as the axes have them: an axis that is not used has its default.
+// The numbers of a list as the axes have them: an axis that is not used has its default. The list's numbers belong to no axis before, so no struct names them.
 fn per_axis(axes: u32, unused: u32, first: u32, second: u32, third: u32) -> PerAxis
     ensures { result ≡ per_axis axes unused first second third }
 {

@@ -10,7 +10,8 @@ use lib.ListN.{length}
 use lib.Ieee.{Float}
 use Rattle.layer.proofs.Places.{place_within}
 use Rattle.taps.specs.Joins.{forward}
-use Rattle.taps.proofs.Joins.{forward_below, below_at}
+use Rattle.taps.specs.Directions.{forward_below}
+use Rattle.taps.proofs.Joins.{below_at}
 use Rattle.taps.proofs.Exact.{both_outer, both_inner, both_at}
 use Rattle.shape.specs.declared.Shape.{Shape}
 use Rattle.shape.specs.Facts.{Grouped}

@@ -1,4 +1,5 @@
 // The C boundary, declared in include/kozamyure.h: every function takes the text of a sheet and lent tensors, and asks nothing of its caller.
+// The numbers in its structs and the parameters one by one are those of the C interface.
 #![tactic(auto)]
 
 ghost use Rattle.std.specs.Prelude.{◌≡◌, length, take};

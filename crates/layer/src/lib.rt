@@ -43,7 +43,8 @@ pub struct Axis {
     pub output_padding: u32,
 }
 
-// A layer. The version is that of its operator: 8, or 14 for MaxPool-14. The input is [n, c, z, y, x], the kernel [g, o, i, kz, ky, kx] or, transposed,
+// A layer. Its numbers are no enums and no narrower types: a record may hold any of them, and checks 1 to 7 refuse what document 01 does not know.
+// The version is that of its operator: 8, or 14 for MaxPool-14. The input is [n, c, z, y, x], the kernel [g, o, i, kz, ky, kx] or, transposed,
 // [g, i, o, kz, ky, kx]. With two axes z is not used, with one neither z nor y.
 #[derive(Clone, Copy)]
 pub struct Layer {
@@ -286,7 +287,7 @@ pub fn uses_z(axes: u32) -> bool
     3 <= axes
 }
 
-// ---- limits
+// ---- limits: each is a sentence of document 01 with a definition and a name of its own; `inside` is what they share
 
 fn inside(lo: u32, hi: u32, v: u32) -> bool
     ensures { result ≡ within lo hi v }

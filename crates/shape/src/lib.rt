@@ -57,6 +57,7 @@ fn axis_within(used: bool, a: Axis) -> bool
     !used | axis_dimensions_ok(a)
 }
 
+#[tactic(auto, unfolding(crate::specs::Checks::dimensions_ok))]
 fn dimensions_ok(op: Op, l: Layer) -> bool
     ensures { result ≡ dimensions_ok op l }
 {
@@ -78,6 +79,7 @@ fn pads_at_default(m: AutoPad, begin: u32, end: u32) -> bool
 }
 
 // Every field of an unused axis is at its default, but for pads that are ignored.
+#[tactic(auto, unfolding(crate::specs::Checks::axis_at_default))]
 fn axis_at_default(m: AutoPad, a: Axis) -> bool
     ensures { result ≡ axis_at_default m a }
 {
@@ -95,6 +97,7 @@ fn axis_fields_ok(op: Op, m: AutoPad, used: bool, a: Axis) -> bool
     axis_attributes_ok(op, m, a) & (used | axis_at_default(m, a))
 }
 
+#[tactic(auto, unfolding(crate::specs::Checks::axes_ok))]
 fn axes_ok(op: Op, m: AutoPad, axes: u32, z: Axis, y: Axis, x: Axis) -> bool
     ensures { result ≡ axes_ok op m axes z y x }
 {
@@ -103,12 +106,14 @@ fn axes_ok(op: Op, m: AutoPad, axes: u32, z: Axis, y: Axis, x: Axis) -> bool
         & axis_attributes_ok(op, m, x)
 }
 
+#[tactic(auto, unfolding(crate::specs::Checks::pooling_ok))]
 fn pooling_ok(axes: u32, axis: i32, g: u32, o: u32, i: u32) -> bool
     ensures { result ≡ pooling_ok axes axis g o i }
 {
     axis_ok(axes, axis) & ((g == Layer::SIZE) & (o == Layer::SIZE) & (i == Layer::SIZE))
 }
 
+#[tactic(auto, unfolding(crate::specs::Checks::not_pooling_ok))]
 fn not_pooling_ok(rounding: Rounding, axis: i32) -> bool
     ensures { result ≡ not_pooling_ok rounding axis }
 {
@@ -145,24 +150,43 @@ fn attributes_ok(op: Op, l: Layer) -> bool
 
 // ---- numbers 3 and 4
 
-fn input_count(n: u32, c: u32, z: u32, y: u32, x: u32) -> usize
-    ensures { result ≡ capped (n * c * z * y * x) }
+#[tactic(auto, using(counts::proofs::Capped::volume_left, counts::proofs::Capped::capped_left))]
+fn input_count(l: Layer) -> usize
+    ensures { result ≡ capped (input_count l) }
 {
-    let channels = times(n as usize, c as usize);
-    volume(channels, z as usize, y as usize, x as usize)
+    let channels = times(l.n as usize, l.c as usize);
+    volume(
+        channels,
+        l.z.input as usize,
+        l.y.input as usize,
+        l.x.input as usize,
+    )
 }
 
-fn tap_count(i: u32, z: u32, y: u32, x: u32) -> usize
-    ensures { result ≡ capped (i * z * y * x) }
+// So many kernels of one channel.
+fn kernel_volume(l: Layer, channels: usize) -> usize
+    ensures { result ≡ capped (channels * l.z.kernel * l.y.kernel * l.x.kernel) }
 {
-    volume(i as usize, z as usize, y as usize, x as usize)
+    volume(
+        channels,
+        l.z.kernel as usize,
+        l.y.kernel as usize,
+        l.x.kernel as usize,
+    )
 }
 
-fn kernel_count(g: u32, o: u32, i: u32, z: u32, y: u32, x: u32) -> usize
-    ensures { result ≡ capped (g * o * i * z * y * x) }
+fn tap_count(l: Layer) -> usize
+    ensures { result ≡ capped (tap_count l) }
 {
-    let channels = times(times(g as usize, o as usize), i as usize);
-    volume(channels, z as usize, y as usize, x as usize)
+    kernel_volume(l, l.i as usize)
+}
+
+#[tactic(auto, using(counts::proofs::Capped::volume_left, counts::proofs::Capped::capped_left))]
+fn kernel_count(l: Layer) -> usize
+    ensures { result ≡ capped (kernel_count l) }
+{
+    let channels = times(times(l.g as usize, l.o as usize), l.i as usize);
+    kernel_volume(l, channels)
 }
 
 // The product of two sizes of any value.
@@ -178,12 +202,13 @@ fn groups_ok(op: Op, c: u32, g: u32, i: u32) -> bool
     is_pool(op) | (c as usize == product(g, i))
 }
 
+#[tactic(auto, using(counts::proofs::Capped::leb_capped), unfolding(crate::specs::Checks::counts_ok))]
 fn counts_ok(op: Op, l: Layer) -> bool
     ensures { result ≡ counts_ok op l }
 {
-    let taps = tap_count(l.i, l.z.kernel, l.y.kernel, l.x.kernel);
-    let input = input_count(l.n, l.c, l.z.input, l.y.input, l.x.input);
-    let kernel = kernel_count(l.g, l.o, l.i, l.z.kernel, l.y.kernel, l.x.kernel);
+    let taps = tap_count(l);
+    let input = input_count(l);
+    let kernel = kernel_count(l);
     (is_pool(op) | taps_ok(taps)) & elements_ok(input) & elements_ok(kernel)
 }
 
@@ -210,15 +235,16 @@ fn windows_ok(op: Op, s: Shape) -> bool
     !(some_missed(s.z) | some_missed(s.y) | some_missed(s.x))
 }
 
+#[tactic(auto, using(counts::proofs::Capped::capped_is))]
 fn shape_of(l: Layer, z: Span, y: Span, x: Span, channels: usize, outputs: usize) -> Shape
     requires counts { (tap_count l ≤ 16777216) × (input_count l ≤ 16777216) × (kernel_count l ≤ 16777216) }
     requires modulus { modulus_of l ≤ 16777216 }
     ensures { result ≡ shape_with l z y x channels outputs }
 {
-    let taps = tap_count(l.i, l.z.kernel, l.y.kernel, l.x.kernel);
-    let inputs = input_count(l.n, l.c, l.z.input, l.y.input, l.x.input);
-    let weights = kernel_count(l.g, l.o, l.i, l.z.kernel, l.y.kernel, l.x.kernel);
-    let modulus = modulus_of(l.axes, l.axis, l.n, l.c, l.z.input, l.y.input, l.x.input);
+    let taps = tap_count(l);
+    let inputs = input_count(l);
+    let weights = kernel_count(l);
+    let modulus = modulus_of(l);
     Shape {
         n: l.n as usize,
         c: l.c as usize,
@@ -291,18 +317,21 @@ pub fn judge(op: Op, layer: Layer) -> Result<Shape, Refusal>
 
 // ---- the axes of a plane as rows and columns
 
+#[tactic(auto, unfolding(crate::specs::Volumes::input_rows))]
 pub fn input_rows(s: Shape) -> usize
     ensures { result ≡ input_rows s }
 {
     product(s.z.input, s.y.input)
 }
 
+#[tactic(auto, unfolding(crate::specs::Volumes::kernel_rows))]
 pub fn kernel_rows(s: Shape) -> usize
     ensures { result ≡ kernel_rows s }
 {
     product(s.z.kernel, s.y.kernel)
 }
 
+#[tactic(auto, unfolding(crate::specs::Volumes::out_rows))]
 pub fn out_rows(s: Shape) -> usize
     ensures { result ≡ out_rows s }
 {

@@ -70,7 +70,7 @@ pub fn check_elements(xs: &[f32]) -> Result<(), BadElements>
 
 // ---- the best of a window
 
-// What a window holds: nothing, or its best value with its place.
+// What a window holds: nothing, or its best value with its place. No Option: document 01 asks for this enum ("Places and their forms").
 #[derive(Clone, Copy)]
 pub enum Window {
     Empty,

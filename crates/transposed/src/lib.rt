@@ -29,7 +29,7 @@ struct FirstTap {
     row: u32,
 }
 
-// The lent tensors of a call, with the shape that they fit.
+// The lent tensors of a call, with the shape that they fit. `convolution` has its own: methods stand in the crate of their type, and these fill by other sums.
 #[derive(Clone, Copy)]
 struct Tensors<'a> {
     shape: Shape,

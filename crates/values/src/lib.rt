@@ -13,6 +13,7 @@ use layer::{AutoPad, Op, Rounding, SheetError, axes_in};
 use print::{put_byte, put_number, put_numbers, put_text};
 use text::{Items, find, is_text, one_item, part_of, read_number, read_numbers};
 
+// A line's field is a value and no type of a trait: the forms of `lines` and `fields` (`Form`, `field_value`) hold it in their definitions, for the reader and the writer.
 // What a line's value is: a word of a table (of roundings, those that a version knows), the number of axes, a list of so many numbers, or an axis.
 #[derive(Clone, Copy)]
 pub enum Field {
