@@ -85,7 +85,8 @@ impl Pooling<'_> {
         best
     }
 
-    // Writes the value and the index of each output of one row, of number `line` among all rows. By the index, as `iter_mut` has the same lack.
+    // Writes the value and the index of each output of one row, of number `line` among all rows. No `zip` of the two:
+    // after an adapter a proof knows no element.
     fn fill_line(&self, line: usize, values: &mut [f32], indices: &mut [i64])
         requires line_in { line * self.now.shape.x.out + self.now.shape.x.out ≤ self.now.shape.outputs }
         requires values_len { (length values.old ≡ self.now.shape.x.out) × (length indices.old ≡ self.now.shape.x.out) }
@@ -95,9 +96,9 @@ impl Pooling<'_> {
         let rows = out_rows(self.shape);
         let first = line / rows * input_rows(self.shape);
         let p = (line % rows) as u32;
-        for q in 0..values.len() {
+        for (q, value) in values.iter_mut().enumerate() {
             let w = self.scan_window(first, p, q as u32);
-            values[q] = value_of(w);
+            *value = value_of(w);
             indices[q] = index_of(self.shape.modulus, w);
         }
     }
