@@ -86,7 +86,7 @@ struct Part {
     end: usize,
 }
 
-// Row number `number` of all rows of outputs.
+// Row number `number` of all rows of outputs. `transposed` and `halved` decode theirs: over any numbers the products could leave 64 bits, so a public one would ask.
 fn line_of(s: Shape, number: usize) -> Line
     requires grouped { Grouped s }
     requires out_bound { number * s.x.out < s.outputs }
@@ -210,6 +210,7 @@ fn none_inside(c: Columns) -> bool
     }
 }
 
+// What a call's own arguments must meet stays a `requires`: it speaks of them and of the row together.
 impl OutputRow<'_> {
     // ---- a kernel row inside the input
 
@@ -380,7 +381,7 @@ impl Tensors<'_> {
     }
 }
 
-// Convolution with running sums.
+// Convolution with running sums. What it shares with the other calls is `check_sum`; the fill between is its own.
 fn with_running_sums(
     layer: Layer,
     input: &[f32],

@@ -18,7 +18,7 @@ use sizes::Span;
 use sums::add_product;
 use taps::forward;
 
-// An output: the axes, its position along each, the first plane of its group in the input and its first weight.
+// An output, which goes through the recursion beside both tensors: a struct of all three would be larger in each of its frames. The axes, its position along each, the first plane of its group in the input and its first weight.
 #[derive(Clone, Copy)]
 struct Output {
     z: Span,

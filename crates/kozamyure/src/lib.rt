@@ -269,6 +269,7 @@ pub extern "C" fn koza_maxpool(
     }
 }
 
+// No From here and for lengths: a sheet's refusal and a layer's come alike, as a number and a line.
 fn no_shape(number: u32, line: u32) -> ShapeAnswer
     ensures { result ≡ no_shape number line }
 {

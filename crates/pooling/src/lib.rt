@@ -86,7 +86,7 @@ impl Pooling<'_> {
     }
 
     // Writes the value and the index of each output of one row, of number `line` among all rows. No `zip` of the two:
-    // after an adapter a proof knows no element.
+    // its contract does not tell what they hold after it.
     fn fill_line(&self, line: usize, values: &mut [f32], indices: &mut [i64])
         requires line_in { line * self.now.shape.x.out + self.now.shape.x.out ≤ self.now.shape.outputs }
         requires values_len { (length values.old ≡ self.now.shape.x.out) × (length indices.old ≡ self.now.shape.x.out) }

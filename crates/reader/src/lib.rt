@@ -1,5 +1,5 @@
 // The reader of a sheet's lines over lent bytes: the version line, and the twelve others three at a time. Line numbers are counted from `first`, that of the
-// line `op=`.
+// line `op=`. Each line's answer is taken apart by `let .. else` and no `?`: document 01 asks for this form ("Places and their forms").
 #![tactic(auto)]
 
 ghost use Rattle.std.specs.Prelude.{◌+◌, ◌≡◌};

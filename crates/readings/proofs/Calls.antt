@@ -12,7 +12,7 @@ use lib.Ieee.{Float}
 use Rattle.layer.specs.declared.Op.{Op}
 use Rattle.layer.specs.declared.Op.TheVariants.{MaxPool}
 use Rattle.layer.specs.declared.Layer.{Layer}
-use Rattle.layer.specs.Refusals.{number_of, refusal_number, refusal_tells, tells}
+use Rattle.layer.specs.Refusals.{number_of, refusal_number, tells}
 use Rattle.shape.specs.declared.Shape.{Shape}
 use Rattle.shape.specs.Checks.{dimensions_ok, attributes_ok, groups_ok, counts_ok, fits_ok, output_ok, windows_ok}
 use Rattle.shape.specs.Judge.{judged}

@@ -1,3 +1,4 @@
+pub mod Rows
 pub mod Taps
 pub mod Shared
 pub mod Convolution

@@ -348,7 +348,7 @@ fn run_case(rt: &impl Print, s: &[u8], at: usize) -> io::Result<usize> {
     run_plane(rt, s, at)
 }
 
-// At most 1,000 cases.
+// At most 1,000 cases. `vectors` has the same few lines over its own.
 fn run_all(rt: &impl Print, s: &[u8]) -> io::Result<()> {
     let mut at = 0;
     for _ in 0..1000 {

@@ -18,7 +18,7 @@ use sheet::read_sheet;
 use text::{one_item, part_of};
 use values::Field;
 
-// The sizes of an output: images, channels, depths, rows and columns.
+// The sizes of an output: images, channels, depths, rows and columns. `tensor::Dimensions` are those of the picker's tensor; `report` stands on no tensor.
 #[derive(Clone, Copy)]
 pub struct Output {
     pub n: u32,

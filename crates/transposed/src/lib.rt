@@ -127,7 +127,7 @@ impl OutputRow<'_> {
         add_taps(out, row, weights, s.x);
     }
 
-    // The taps of channel i more, kernel row by kernel row.
+    // The taps of channel i more, kernel row by kernel row; no closure takes the step, as in `convolution`.
     fn add_channel(&self, i: usize, out: &mut [f32])
         requires row { (i < self.now.tensors.shape.i) × (length out.old ≡ self.now.tensors.shape.x.out) }
         ensures { Summed (channel_taps self.now.tensors.shape self.now.tensors.input.now self.now.tensors.kernel.now self.now.first i) (kernel_rows self.now.tensors.shape * self.now.tensors.shape.x.kernel) self.now.tensors.shape.x.out out.old out.new }

@@ -26,7 +26,7 @@ pub enum Field {
     AxisDigit,
 }
 
-// A digit, and 1 after a minus.
+// A digit, and 1 after a minus: numbers, for a value is `Items` whatever its line, and the definitions of the axis name them.
 fn signed(digit: u32, minus: u32) -> Items
     ensures { result ≡ signed digit minus }
 {
@@ -40,7 +40,7 @@ fn signed(digit: u32, minus: u32) -> Items
     }
 }
 
-// ---- words
+// ---- words: a table is one text with commas, as the definitions `words` and `word_at` have it
 
 // The table of the words after the first.
 fn later_words(table: &[u8]) -> &[u8]
@@ -209,7 +209,8 @@ pub fn put_value(buf: &mut [u8], at: usize, field: Field, items: Items) -> usize
     }
 }
 
-// ---- values that are no numbers in the layer record. They are functions and no impls of From: the types are of other crates, so an impl may not stand here.
+// ---- values that are no numbers in the layer record. They are functions and no impls of From: an impl stands with its trait or
+// its type, and `layer` and `text` know no tables of words.
 
 pub fn op_of(items: Items) -> Op
     ensures { result ≡ op_of items }
