@@ -76,5 +76,5 @@ pub part_away : (s : Shape) (h : Grouped s) (input kernel : List Float) (f : Lin
 part_away s h input kernel f g (Alike output taps) {n} k z =
     let e = eqb-true taps.count 0 z in
     line_away s h input kernel f.number output (λ x i a b t p la lb lt.
-    column_outside s h input kernel f g i (omega (arith, k.outputs)) la lb lt (exactly_none (rw e at (k.alike x p)) lt))
+    column_outside s h input kernel f g i (omega (arith, k.0)) la lb lt (exactly_none (rw e at (k.1.alike x p)) lt))
 part_away s h input kernel f g Whole {n} k z = absurd (false≢true z)

@@ -147,7 +147,7 @@ module _ (x : Span) (row weights : List Float) (h : RowFits x (length row) (leng
 
 -- every one of some outputs is one of the row
 pub outputs_within : (x : Span) (c : Columns) (n : ℕ) → PartInside x c n → first_output c + n ≤ x.out
-outputs_within x (Alike output taps) n k = k.outputs
+outputs_within x (Alike output taps) n k = k.0
 outputs_within x Whole n k = omega (arith, k.all)
 
 pub columns_within : (x : Span) (c : Columns) {n j : ℕ} → ColumnsInside x c n → j < n → first_output c + j < x.out
@@ -157,4 +157,4 @@ columns_within x c {n} k l = omega (arith, outputs_within x c n k.part)
 pub alike_in : (x : Span) (c : Columns) {output : ℕ} {taps : Taps} {n : ℕ} → ColumnsInside x c n → c ≡ Alike output taps → AlikeInside x output taps n × (1 ≤ taps.count)
 alike_in x c {output} {taps} k e =
     let z = eqb-false taps.count 0 (rw e at k.some_taps) in
-    (rw e at k.part, omega arith)
+    ((rw e at k.part).1, omega arith)

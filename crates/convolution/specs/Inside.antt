@@ -87,7 +87,6 @@ pub record BlockInside (x : Span) (output : ℕ) (taps : Taps) (n : ℕ) : Type 
 -- outputs that have exactly these taps inside the input
 pub record AlikeInside (x : Span) (output : ℕ) (taps : Taps) (n : ℕ) : Type 0 where
   pub some : 1 ≤ n
-  pub outputs : output + n ≤ x.out
   pub alike : (j : ℕ) → j < n → Exactly x.kernel (tap_inside x (output + j)) taps.first taps.count
 
 -- all outputs of a row, with a stride of 1
@@ -105,7 +104,7 @@ none_inside (Alike output taps) = eqb taps.count 0
 none_inside Whole = false
 
 abbrev pub PartInside : Span → Columns → ℕ → Type 0
-PartInside x (Alike output taps) n = AlikeInside x output taps n
+PartInside x (Alike output taps) n = (output + n ≤ x.out) × AlikeInside x output taps n
 PartInside x Whole n = WholeRow x n
 
 -- with some tap inside the input, where they are alike
