@@ -1,7 +1,7 @@
 -- Bounds of a line of outputs of a sound shape: its row, and the plane of the input that it is taken from.
 use Rattle.std.specs.Prelude.{Option, Some}
-use Prim.Native.Nat.{ℕ, ◌+◌, ◌*◌, ◌/◌, ◌≤◌}
-use native.Mathlib.Nat.{mul-le-mul_right, le-mul_of_pos_right}
+use Prim.Native.Nat.{ℕ, ◌+◌, ◌*◌, ◌/◌, ◌%◌, ◌≤◌}
+use native.Mathlib.Nat.{mod-lt, mul-le-mul_right, le-mul_of_pos_right}
 use native.Mathlib.Omega.{arith}
 use mathlib.Core.Path.{◌≡◌, sym, ap, ◌∙◌}
 use Rattle.layer.proofs.Places.{part_within, div_within}
@@ -15,8 +15,10 @@ use Rattle.taps.proofs.Joins.{below_at}
 use Rattle.tensor.proofs.Lines.{line_start}
 use Rattle.call.proofs.Planes.{products}
 
--- of a line, from the numbers of rows that the code is told: the number of its plane's row 0 in the input, and the plane's end
+-- of a line, from the numbers of rows that the code is told: its row in the plane, the number of the plane's row 0 in the input, and the plane's end
 pub record PlaneAt (s : Shape) (line rows height : ℕ) : Type 0 where
+  pub rows_1 : 1 ≤ rows
+  pub row : line % rows ≤ 16777216
   pub first : line / rows * height ≤ 16777216
   pub end : (line / rows * height + input_rows s) * s.x.input ≤ s.inputs
 
@@ -31,6 +33,8 @@ plane_of_lem s g line l er eh =
     let rows = part_within {a = line / out_rows s} {n = s.n * s.c} (input_rows s) (omega arith) in
     rw (er, eh)
     (record {
+      rows_1 = h.out_rows_1;
+      row = omega (arith, mod-lt line h.out_rows_1, k.out_rows_max);
       first = omega (arith, rows, k.lines_inputs, h.inputs_max);
       end = omega (arith, mul-le-mul_right s.x.input rows, h.inputs_is);
     })
