@@ -85,8 +85,8 @@ impl Pooling<'_> {
         best
     }
 
-    // Writes the value and the index of each output of one row, of number `line` among all rows. No `zip` of the two:
-    // its contract does not tell what they hold after it.
+    // Writes the value and the index of each output of one row, of number `line` among all rows. Both go by number: the contract of `zip` does not tell what they
+    // hold after it, and an iterator over the values has no other place that a wrong store could name (must-fail/first_window_written).
     fn fill_line(&self, line: usize, values: &mut [f32], indices: &mut [i64])
         requires line_in { line * self.now.shape.x.out + self.now.shape.x.out ≤ self.now.shape.outputs }
         requires values_len { (length values.old ≡ self.now.shape.x.out) × (length indices.old ≡ self.now.shape.x.out) }
@@ -96,9 +96,9 @@ impl Pooling<'_> {
         let rows = out_rows(self.shape);
         let first = line / rows * input_rows(self.shape);
         let p = (line % rows) as u32;
-        for (q, value) in values.iter_mut().enumerate() {
+        for q in 0..values.len() {
             let w = self.scan_window(first, p, q as u32);
-            *value = value_of(w);
+            values[q] = value_of(w);
             indices[q] = index_of(self.shape.modulus, w);
         }
     }
