@@ -33,6 +33,9 @@ module _ (f : Items → Items → Items → ℕ → Result Layer SheetRefusal) {
   unfolding after_three
   bad_three q = sym q
 
+  pub three_refused : {r : Result (Items × Items × Items × ℕ) SheetRefusal} {e : SheetRefusal} → r ≡ Err e → a ≡ after_three r f → Err e ≡ a
+  three_refused k q = bad_three (q ∙ ap (λ x. after_three x f) k)
+
   pub good_three : {x y z : Items} {next : ℕ} → a ≡ after_three (Ok (x, y, z, next)) f → a ≡ f x y z next
   unfolding after_three
   good_three q = q

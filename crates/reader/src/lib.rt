@@ -32,7 +32,10 @@ fn refusal(error: SheetError, line: u32) -> SheetRefusal
 fn read_op(version: u32, s: &[u8], at: usize) -> Result<(Items, usize), SheetError>
     ensures { result ≡ unless_taken (op_taken version) (field_line (text "op=") Field.OpWord s.now at) }
 {
-    let (word, next) = line_at(s, at, b"op=", Field::OpWord, ALWAYS)?;
+    let r = line_at(s, at, b"op=", Field::OpWord, ALWAYS);
+    let Ok((word, next)) = r else {
+        return Err(r.unwrap_err());
+    };
     if lacks_op(version, op_of(word)) {
         return Err(SheetError::Unused);
     }
@@ -142,13 +145,25 @@ fn read_last(
 pub fn read_lines(version: u32, first: u8, s: &[u8], at0: usize) -> Result<Layer, SheetRefusal>
     ensures { result ≡ read_form (twelve_lines version) first s.now at0 }
 {
-    let (word, number, input, at3) = read_first(version, first, s, at0)?;
+    let r3 = read_first(version, first, s, at0);
+    let Ok((word, number, input, at3)) = r3 else {
+        return Err(r3.unwrap_err());
+    };
     let op = op_of(word);
     let axes = number.a;
-    let (kernel, strides, dilations, at6) = read_sizes(first, op, axes, s, at3)?;
+    let r6 = read_sizes(first, op, axes, s, at3);
+    let Ok((kernel, strides, dilations, at6)) = r6 else {
+        return Err(r6.unwrap_err());
+    };
     let sized = sized_layer(version, op, axes, input, kernel, strides, dilations);
-    let (mode, begin, end, at9) = read_pads(first, axes, s, at6)?;
-    let (padding, rounding, axis, at12) = read_last(version, first, op, axes, s, at9)?;
+    let r9 = read_pads(first, axes, s, at6);
+    let Ok((mode, begin, end, at9)) = r9 else {
+        return Err(r9.unwrap_err());
+    };
+    let r12 = read_last(version, first, op, axes, s, at9);
+    let Ok((padding, rounding, axis, at12)) = r12 else {
+        return Err(r12.unwrap_err());
+    };
     if at12 != s.len() {
         return Err(refusal(SheetError::Key, u32::from(first) + 12));
     }

@@ -5,64 +5,54 @@ use mir.Facts.{to_z-of_z}
 use mir.Syntax.{w32}
 use lib.ListN.{length}
 use Rattle.std.specs.Prelude.{Ok}
-use Rattle.std.proofs.lemmas.Result.{err_from_is_err_and}
 use Rattle.lines.proofs.StepLaws.{left_over, nothing_after}
 use Rattle.fields.specs.Sheet.{twelve_lines}
-use Rattle.reader.proofs.ThreeLaws.{bad_three, good_three}
+use Rattle.reader.proofs.ThreeLaws.{three_refused, good_three}
 use Rattle.reader.proofs.read_lines.Goals as goal
 
-pub returns-in_err-word : goal.returns-in_err-word
+pub returns-in_default : goal.returns-in_default
 unfolding twelve_lines
-returns-in_err-word c =
-    let p = err_from_is_err_and c.from_residual.result c.from_residual.ensures.1 in
-    rw (p.1, p.2)
-    (bad_three _ (c.in_err-word.ensures _))
+returns-in_default c = three_refused _ c.unwrap_err.ensures (c.read_first-r3.ensures _)
 
-pub returns-in_err-kernel : goal.returns-in_err-kernel
+pub returns-in_default-r6 : goal.returns-in_default-r6
 unfolding twelve_lines
-returns-in_err-kernel c =
-    let p = err_from_is_err_and c.from_residual-in_err-kernel.result c.from_residual-in_err-kernel.ensures.1 in
-    rw (p.1, p.2)
-    (bad_three _ (good_three _ (c.in_ok-word.ensures _) ∙
-    (rw c.op_of-op.ensures at c.in_err-kernel.ensures) _))
+returns-in_default-r6 c =
+    three_refused _ c.unwrap_err-in_default-r6.ensures (good_three _ (c.in-Ok.ensures _) ∙
+    (rw c.op_of-op.ensures at c.read_sizes-r6.ensures) _)
 
-pub returns-in_err-mode : goal.returns-in_err-mode
+pub returns-in_default-r9 : goal.returns-in_default-r9
 unfolding twelve_lines
-returns-in_err-mode c =
-    let p = err_from_is_err_and c.from_residual-in_err-mode.result c.from_residual-in_err-mode.ensures.1 in
-    rw (p.1, p.2)
-    (bad_three _ (good_three _ (c.in_ok-word.ensures _) ∙
-    good_three _ ((rw c.op_of-op.ensures at c.in_ok-kernel.ensures) _) ∙
-    c.in_err-mode.ensures _))
+returns-in_default-r9 c =
+    three_refused _ c.unwrap_err-in_default-r9.ensures (good_three _ (c.in-Ok.ensures _) ∙
+    good_three _ ((rw c.op_of-op.ensures at c.in-Ok-r6.ensures) _) ∙
+    c.read_pads-r9.ensures _)
 
-pub returns-in_err-padding : goal.returns-in_err-padding
+pub returns-in_default-r12 : goal.returns-in_default-r12
 unfolding twelve_lines
-returns-in_err-padding c =
-    let p = err_from_is_err_and c.from_residual-in_err-padding.result c.from_residual-in_err-padding.ensures.1 in
-    rw (p.1, p.2)
-    (bad_three _ (good_three _ (c.in_ok-word.ensures _) ∙
-    good_three _ ((rw c.op_of-op.ensures at c.in_ok-kernel.ensures) _) ∙
-    good_three _ (c.in_ok-mode.ensures _) ∙
-    (rw c.op_of-op.ensures at c.in_err-padding.ensures) _))
+returns-in_default-r12 c =
+    three_refused _ c.unwrap_err-in_default-r12.ensures (good_three _ (c.in-Ok.ensures _) ∙
+    good_three _ ((rw c.op_of-op.ensures at c.in-Ok-r6.ensures) _) ∙
+    good_three _ (c.in-Ok-r9.ensures _) ∙
+    (rw c.op_of-op.ensures at c.read_last-r12.ensures) _)
 
 pub returns-then-at12-s : goal.returns-then-at12-s
 unfolding twelve_lines
 returns-then-at12-s c =
-    let over : c.in_ok-padding.at12 ≡ length c.args.s.now → ⊥ = λ e. omega arith in
+    let over : c.in-Ok-r12.at12 ≡ length c.args.s.now → ⊥ = λ e. omega arith in
     rw (c.refusal.ensures, c.from.ensures)
-    (sym (good_three _ (c.in_ok-word.ensures _) ∙
-    good_three _ ((rw c.op_of-op.ensures at c.in_ok-kernel.ensures) _) ∙
-    good_three _ (c.in_ok-mode.ensures _) ∙
-    good_three _ ((rw c.op_of-op.ensures at c.in_ok-padding.ensures) _) ∙
+    (sym (good_three _ (c.in-Ok.ensures _) ∙
+    good_three _ ((rw c.op_of-op.ensures at c.in-Ok-r6.ensures) _) ∙
+    good_three _ (c.in-Ok-r9.ensures _) ∙
+    good_three _ ((rw c.op_of-op.ensures at c.in-Ok-r12.ensures) _) ∙
     left_over _ _ _ _ over))
 
 pub returns : goal.returns
 unfolding twelve_lines
 returns c =
-    let done : c.in_ok-padding.at12 ≡ length c.args.s.now = omega arith in
-    sym (good_three _ (c.in_ok-word.ensures _) ∙
-    good_three _ ((rw c.op_of-op.ensures at c.in_ok-kernel.ensures) _) ∙
-    good_three _ (c.in_ok-mode.ensures _) ∙
-    good_three _ ((rw c.op_of-op.ensures at c.in_ok-padding.ensures) _) ∙
+    let done : c.in-Ok-r12.at12 ≡ length c.args.s.now = omega arith in
+    sym (good_three _ (c.in-Ok.ensures _) ∙
+    good_three _ ((rw c.op_of-op.ensures at c.in-Ok-r6.ensures) _) ∙
+    good_three _ (c.in-Ok-r9.ensures _) ∙
+    good_three _ ((rw c.op_of-op.ensures at c.in-Ok-r12.ensures) _) ∙
     nothing_after _ _ _ _ done ∙
     ap Ok (sym (rw (c.sized_layer-sized.ensures, c.op_of-op.ensures, c.rounding_of-used.ensures, c.auto_pad_of.ensures, to_z-of_z {w = w32} (record { sfits = c.axis_of-position.type_inv }), c.axis_of-position.ensures) at c.padded_layer.ensures)))
