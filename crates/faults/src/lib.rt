@@ -3,7 +3,6 @@
 
 ghost use Rattle.std.specs.Prelude.{◌≡◌};
 ghost use Rattle.std.specs.Fn.{FnReturnsAt};
-ghost use Rattle.layer.specs.Defaults.{default_axis};
 ghost use Rattle.faults.specs.Faults.{bad_version, op_line, bad_axes, bad_axis, hides, hides_sizes, is_default_padding, unused_padding, unused_rounding, unused_axis, refuse_if, axis_faults, pad_faults, line_faults, first_fault, fault_of};
 
 use layer::{
@@ -38,12 +37,10 @@ fn bad_axis(axis: i32) -> bool
 }
 
 // Whether an axis that is not used has this field at another value than its default.
-fn hides<F: Fn(&Axis) -> u32>(l: &Layer, field: F) -> bool
+fn hides<F: Fn(&Axis) -> u32>(l: &Layer, field: F, default: u32) -> bool
     requires { F.IsAlwaysCallable field }
-    ensures { (z : _) × (y : _) × (default : _) × FnReturnsAt F.Fn field l.now.z z × FnReturnsAt F.Fn field l.now.y y
-        × FnReturnsAt F.Fn field default_axis default × (result ≡ hides l.now.axes z y default) }
+    ensures { (z : _) × (y : _) × FnReturnsAt F.Fn field l.now.z z × FnReturnsAt F.Fn field l.now.y y × (result ≡ hides l.now.axes z y default) }
 {
-    let default = field(&Axis::new());
     let z = field(&l.z);
     let y = field(&l.y);
     (!uses_z(l.axes) & (z != default)) | (!uses_y(l.axes) & (y != default))
@@ -105,9 +102,21 @@ fn pad_fault(first: u8, l: &Layer) -> Result<(), SheetRefusal>
     ensures { result ≡ first_fault (pad_faults first l.now) }
 {
     let line = u32::from(first);
-    refuse_if(hides(l, |a| a.pad_begin), SheetError::Unused, line + 7)?;
-    refuse_if(hides(l, |a| a.pad_end), SheetError::Unused, line + 8)?;
-    refuse_if(hides(l, |a| a.output_padding), SheetError::Unused, line + 9)?;
+    refuse_if(
+        hides(l, |a| a.pad_begin, Axis::PAD),
+        SheetError::Unused,
+        line + 7,
+    )?;
+    refuse_if(
+        hides(l, |a| a.pad_end, Axis::PAD),
+        SheetError::Unused,
+        line + 8,
+    )?;
+    refuse_if(
+        hides(l, |a| a.output_padding, Axis::OUTPUT_PADDING),
+        SheetError::Unused,
+        line + 9,
+    )?;
     refuse_if(unused_padding(l), SheetError::Unused, line + 9)?;
     refuse_if(
         lacks_rounding(l.version, l.rounding),
@@ -130,11 +139,27 @@ fn line_fault(first: u8, l: &Layer) -> Result<(), SheetRefusal>
     let line = u32::from(first);
     refuse_if(lacks_op(l.version, l.op), SheetError::Unused, line)?;
     refuse_if(bad_axes(l.axes), SheetError::Number, line + 1)?;
-    refuse_if(hides(l, |a| a.input), SheetError::Unused, line + 2)?;
-    refuse_if(hides(l, |a| a.kernel), SheetError::Unused, line + 3)?;
+    refuse_if(
+        hides(l, |a| a.input, Axis::SIZE),
+        SheetError::Unused,
+        line + 2,
+    )?;
+    refuse_if(
+        hides(l, |a| a.kernel, Axis::SIZE),
+        SheetError::Unused,
+        line + 3,
+    )?;
     refuse_if(hides_sizes(l), SheetError::Unused, line + 3)?;
-    refuse_if(hides(l, |a| a.stride), SheetError::Unused, line + 4)?;
-    refuse_if(hides(l, |a| a.dilation), SheetError::Unused, line + 5)?;
+    refuse_if(
+        hides(l, |a| a.stride, Axis::STRIDE),
+        SheetError::Unused,
+        line + 4,
+    )?;
+    refuse_if(
+        hides(l, |a| a.dilation, Axis::DILATION),
+        SheetError::Unused,
+        line + 5,
+    )?;
     pad_fault(first, l)
 }
 
