@@ -21,6 +21,7 @@ pub trait Direction {
 }
 
 // From an output position: convolution and pooling.
+#[derive(Clone, Copy)]
 pub struct Forward;
 
 impl Direction for Forward {
@@ -34,6 +35,7 @@ impl Direction for Forward {
 }
 
 // As transposed convolution does.
+#[derive(Clone, Copy)]
 pub struct Backward;
 
 impl Direction for Backward {
