@@ -74,8 +74,8 @@ pub fn starts(t: &[u8], w: &[u8]) -> bool
     t.starts_with(w)
 }
 
-// Whether the text is w.
-#[tactic(auto, using(crate::proofs::TextLaws::same_is))]
+// Whether the text is w. `==` needs `same_is` alone; with the rest its lengths and its front may be compared apart, so that no form refuses must-fail/longer_word.
+#[tactic(auto, using(crate::proofs::TextLaws::same_is, crate::proofs::TextLaws::starts_is), unfolding(crate::specs::Texts::same))]
 pub fn is_text(t: &[u8], w: &[u8]) -> bool
     ensures { result ≡ same w.now t.now }
 {
